@@ -1,0 +1,3 @@
+-- What the definitions of FIPS 180-4 come to.
+pub mod Examples
+pub mod Size
