@@ -1,0 +1,4 @@
+-- What follows from the definitions alone.
+pub mod Lists
+pub mod Bits
+pub mod Bytes

@@ -1,0 +1,84 @@
+-- Laws of lists: membership, "all", tests, and strings put one behind the other. Assumes nothing.
+use mathlib.Core.Path.{_≡_, refl, sym, ap, _∙_, subst}
+use mathlib.Core.Logic.{_⊎_, inl, inr, ⊎-elim}
+use mathlib.Core.Bool.{Bool, true, false, cond, _&&_, _||_}
+use mathlib.Core.List.{List, [], _∷_, _++_, map, head-eq-of-cons-eq, tail-eq-of-cons-eq}
+use Prim.Native.Nat.{ℕ, zero, suc, _+_, _≤_, _<_}
+use native.Mathlib.Omega.{arith}
+use lib.ListN.{length, take, drop, length-append}
+use Rattle.paper.specs.Lists.{_∈_, All, every, some, keep, upFrom}
+
+-- a test that came out, for a proof by cases
+pub true-or-false : (b : Bool) → (b ≡ true) ⊎ (b ≡ false)
+true-or-false true = inl refl
+true-or-false false = inr refl
+
+pub not-both : {A : Type 0} {b : Bool} → b ≡ true → b ≡ false → A
+not-both p q = let z : _≡_ {A = ℕ} 0 1 = ap (λ b. cond b 0 1) (sym p ∙ q) in absurd (omega arith)
+
+pub and-left : (a b : Bool) → (a && b) ≡ true → a ≡ true
+and-left true b e = refl
+and-left false b e = e
+
+pub and-right : (a b : Bool) → (a && b) ≡ true → b ≡ true
+and-right true b e = e
+and-right false b e = not-both e refl
+
+pub and-both : {a b : Bool} → a ≡ true → b ≡ true → (a && b) ≡ true
+and-both p q = rw (p, q)
+
+module _ {A : Type 0} where
+  pub all-in : (P : A → Type 0) (l : List A) → All P l → (a : A) → a ∈ l → P a
+  all-in P (b ∷ l) h a (inl e) = subst P (sym e) (h .0)
+  all-in P (b ∷ l) h a (inr m) = all-in P l (h .1) a m
+
+  pub in-all : (P : A → Type 0) (l : List A) → ((a : A) → a ∈ l → P a) → All P l
+  in-all P [] f = tt
+  in-all P (b ∷ l) f = (f b (inl refl), in-all P l (λ a m. f a (inr m)))
+
+  pub all-left : (P : A → Type 0) (l m : List A) → All P (l ++ m) → All P l
+  all-left P [] m h = tt
+  all-left P (a ∷ l) m h = (h .0, all-left P l m (h .1))
+
+  pub all-right : (P : A → Type 0) (l m : List A) → All P (l ++ m) → All P m
+  all-right P [] m h = h
+  all-right P (a ∷ l) m h = all-right P l m (h .1)
+
+  pub all-append : (P : A → Type 0) (l m : List A) → All P l → All P m → All P (l ++ m)
+  all-append P [] m h k = k
+  all-append P (a ∷ l) m h k = (h .0, all-append P l m (h .1) k)
+
+  pub all-take : (P : A → Type 0) (n : ℕ) (l : List A) → All P l → All P (take n l)
+  all-take P zero l h = tt
+  all-take P (suc n) [] h = tt
+  all-take P (suc n) (a ∷ l) h = (h .0, all-take P n l (h .1))
+
+  pub all-drop : (P : A → Type 0) (n : ℕ) (l : List A) → All P l → All P (drop n l)
+  all-drop P zero l h = h
+  all-drop P (suc n) [] h = tt
+  all-drop P (suc n) (a ∷ l) h = all-drop P n l (h .1)
+
+  -- a test of each is a test of all
+  pub every-all : (t : A → Bool) (l : List A) → every t l ≡ true → All (λ a. t a ≡ true) l
+  unfolding every
+  every-all t [] e = tt
+  every-all t (a ∷ l) e = (and-left (t a) _ e, every-all t l (and-right (t a) _ e))
+
+  pub all-every : (t : A → Bool) (l : List A) → All (λ a. t a ≡ true) l → every t l ≡ true
+  unfolding every
+  all-every t [] h = refl
+  all-every t (a ∷ l) h = and-both (h .0) (all-every t l (h .1))
+
+  -- two strings that are equal, and equally long in front, are equal in front and behind
+  pub append-split : (a b c d : List A) → length a ≡ length c → a ++ b ≡ c ++ d → (a ≡ c) × (b ≡ d)
+  append-split [] b [] d h e = (refl, e)
+  append-split [] b (z ∷ c) d h e = absurd (omega arith)
+  append-split (x ∷ a) b [] d h e = absurd (omega arith)
+  append-split (x ∷ a) b (z ∷ c) d h e =
+      let (p, q) = append-split a b c d (omega arith) (tail-eq-of-cons-eq e) in
+      (rw (head-eq-of-cons-eq e, p) refl, q)
+
+pub upFrom-length : (a k : ℕ) → length (upFrom a k) ≡ k
+unfolding upFrom
+upFrom-length a zero = refl
+upFrom-length a (suc k) = ap suc (upFrom-length (suc a) k)
