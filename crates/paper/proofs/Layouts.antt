@@ -42,6 +42,7 @@ abbrev Told : {A : Type 0} → Layout A → Bytes → A → Bytes → Type 0
 Told a s x r = a .Fits x × (a .bytes x ++ r ≡ s)
 
 pub block-lawful : (n : ℕ) → Lawful (block n)
+unfolding block
 block-lawful n = record {
   reads = λ x r (h, _). rw (le-leb n (length (x ++ r)) (omega (arith, length-append x r)), take-at x r n h, drop-at x r n h);
   tells = λ s x r w e.
@@ -50,6 +51,7 @@ block-lawful n = record {
 }
 
 pub fixed-lawful : (s : Bytes) → Lawful (fixed s)
+unfolding fixed
 fixed-lawful s = record {
   reads = λ x r h. rw (take-at s r (length s) refl, drop-at s r (length s) refl, same-refl s);
   tells = λ b x r w e.
@@ -58,6 +60,7 @@ fixed-lawful s = record {
 }
 
 pub within-lawful : (k low high : ℕ) → Lawful (within k low high)
+unfolding within
 within-lawful k low high = record {
   reads = λ n r h.
       let t : take k (be k n ++ r) ≡ be k n = take-at (be k n) r k (be-length k n) in
@@ -86,6 +89,7 @@ behind : (f r s : Bytes) → f ++ r ≡ s → Bytewise s → Bytewise r
 behind f r s e w = all-right _ f r (rw (← e) at w)
 
 pub seq-lawful : {A B : Type 0} {a : Layout A} {b : A → Layout B} → Lawful a → ((x : A) → Lawful (b x)) → Lawful (seq a b)
+unfolding seq
 seq-lawful {a = a} {b = b} h k = record {
   reads = λ x r f.
       rw (append-assoc (a .bytes (x .0)) (b (x .0) .bytes (x .1)) r, h .reads (x .0) (b (x .0) .bytes (x .1) ++ r) (f .0), k (x .0) .reads (x .1) r (f .1));
@@ -100,6 +104,7 @@ seq-lawful {a = a} {b = b} h k = record {
 -- where what the number says holds only values that determine it
 pub led-lawful : {A : Type 0} {n : Layout ℕ} (size : A → ℕ) {a : ℕ → Layout A} → Lawful n → ((k : ℕ) → Lawful (a k))
     → ((k : ℕ) (x : A) → n .Fits k → a k .Fits x → size x ≡ k) → Lawful (led n size a)
+unfolding led
 led-lawful {n = n} size {a = a} h k d = record {
   reads = λ x r f.
       rw (append-assoc (n .bytes (size x)) (a (size x) .bytes x) r, h .reads (size x) (a (size x) .bytes x ++ r) (f .0), k (size x) .reads x r (f .1));
@@ -117,7 +122,7 @@ times-reads a h (x ∷ l) r f =
     rw (append-assoc (a .bytes x) (timesBytes (a .bytes) l) r, h .reads x (timesBytes (a .bytes) l ++ r) (f .0), times-reads a h l r (f .1))
 
 times-tells : {A : Type 0} (a : Layout A) → Lawful a → (n : ℕ) (s : Bytes) (l : List A) (r : Bytes) → Bytewise s → timesRead (a .read) n s ≡ got l r → Told (times n a) s l r
-unfolding timesRead timesBytes
+unfolding times timesRead timesBytes
 times-tells a h zero s l r w e = carry (Told (times 0 a) s) [] l s r e ((refl, tt), refl)
 times-tells a h (suc n) s l r w e =
     let (x, q, e₁, e₂) = then-got (a .read s) _ l r e in
@@ -128,12 +133,14 @@ times-tells a h (suc n) s l r w e =
     ((ap suc (f′ .0), (f, f′ .1)), append-assoc (a .bytes x) (timesBytes (a .bytes) m) t ∙ ap (λ c. a .bytes x ++ c) g′ ∙ g)
 
 pub times-lawful : {A : Type 0} (n : ℕ) {a : Layout A} → Lawful a → Lawful (times n a)
+unfolding times
 times-lawful n {a = a} h = record {
   reads = λ l r f. rw (← (f .0)) (times-reads a h l r (f .1));
   tells = times-tells a h n;
 }
 
 pub such-lawful : {A : Type 0} {a : Layout A} (test : A → Bool) → Lawful a → Lawful (such a test)
+unfolding such
 such-lawful {a = a} test h = record {
   reads = λ x r f. rw (h .reads x r (f .0), f .1);
   tells = λ s x r w e.
@@ -143,6 +150,7 @@ such-lawful {a = a} test h = record {
 }
 
 pub view-lawful : {A B : Type 0} {a : Layout A} (to : A → B) (from : B → A) → Lawful a → ((x : A) → a .Fits x → from (to x) ≡ x) → Lawful (view a to from)
+unfolding view
 view-lawful {a = a} to from h back = record {
   reads = λ y r f. rw (h .reads (from y) r (f .0), f .1);
   tells = λ s y r w e.
@@ -153,6 +161,7 @@ view-lawful {a = a} to from h back = record {
 }
 
 pub never-lawful : {A : Type 0} → Lawful (never {A = A})
+unfolding never
 never-lawful = record {
   reads = λ x r f. absurd f;
   tells = λ s x r w e. let z : _≡_ {A = ℕ} 0 1 = cc in absurd (omega arith);

@@ -3,3 +3,5 @@ pub mod Lists
 pub mod Bits
 pub mod Bytes
 pub mod Layouts
+pub mod Proofs
+pub mod Tree

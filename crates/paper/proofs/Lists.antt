@@ -69,6 +69,37 @@ module _ {A : Type 0} where
   all-every t [] h = refl
   all-every t (a ∷ l) h = and-both (h .0) (all-every t l (h .1))
 
+  -- those that a test keeps: each passed it and was there before, and each that was there and passes it is kept
+  pub keep-passes : (t : A → Bool) (l : List A) → All (λ a. t a ≡ true) (keep t l)
+  unfolding keep
+  keep-passes t [] = tt
+  keep-passes t (a ∷ l) = by (t a) refl (keep-passes t l)
+    where
+      by : (b : Bool) → t a ≡ b → All (λ a. t a ≡ true) (keep t l) → All (λ a. t a ≡ true) (cond b (a ∷ keep t l) (keep t l))
+      by true e h = (e, h)
+      by false e h = h
+
+  pub keep-all : (P : A → Type 0) (t : A → Bool) (l : List A) → All P l → All P (keep t l)
+  unfolding keep
+  keep-all P t [] h = tt
+  keep-all P t (a ∷ l) h = by (t a) (keep-all P t l (h .1))
+    where
+      by : (b : Bool) → All P (keep t l) → All P (cond b (a ∷ keep t l) (keep t l))
+      by true k = (h .0, k)
+      by false k = k
+
+  pub in-keep : (t : A → Bool) (l : List A) (a : A) → a ∈ l → t a ≡ true → a ∈ keep t l
+  unfolding keep
+  in-keep t (b ∷ l) a (inl e) h = rw (← (ap t e), h) (inl e)
+  in-keep t (b ∷ l) a (inr m) h = by (t b) (in-keep t l a m h)
+    where
+      by : (c : Bool) → a ∈ keep t l → a ∈ cond c (b ∷ keep t l) (keep t l)
+      by true k = inr k
+      by false k = k
+
+  pub keep-in : (t : A → Bool) (l : List A) (a : A) → a ∈ keep t l → a ∈ l
+  keep-in t l a m = all-in (λ b. b ∈ l) (keep t l) (keep-all (λ b. b ∈ l) t l (in-all _ l (λ b k. k))) a m
+
   -- two strings that are equal, and equally long in front, are equal in front and behind
   pub append-split : (a b c d : List A) → length a ≡ length c → a ++ b ≡ c ++ d → (a ≡ c) × (b ≡ d)
   append-split [] b [] d h e = (refl, e)

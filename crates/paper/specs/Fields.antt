@@ -29,8 +29,11 @@ abbrev pub labelField : Layout Bits
 labelField = view (block wide) bitsOf (pack wide)
 
 -- "prefix length 2, prefix 32 (bits past the length zero)", "length 1 to 255"
+abbrev pub prefixBody : ℕ → Layout Bits
+prefixBody n = view (such (block wide) (λ x. every not (drop n (bitsOf x)))) (λ x. take n (bitsOf x)) (pack wide)
+
 abbrev pub prefixField : Layout Bits
-prefixField = led (within 2 1 255) length (λ n. view (such (block wide) (λ x. every not (drop n (bitsOf x)))) (λ x. take n (bitsOf x)) (pack wide))
+prefixField = led (within 2 1 255) length prefixBody
 
 -- "key length, key", "key | 1 to 64 bytes"
 abbrev pub keyField : Layout Bytes
@@ -98,6 +101,8 @@ abbrev pub endField : ℕ → Layout End
 endField m = led (within 1 0 3) endKind (endOf m)
 
 -- "Path for a label: count m (2 bytes, 1 to 256); m steps ..; end kind (1)."
+abbrev pub pathBody : ℕ → Layout Path
+pathBody m = view (seq (such (times m stepField) rise) (λ _. endField m)) (λ x. record { steps = x .0; end = x .1 }) (λ p. (p .steps, p .end))
+
 abbrev pub pathField : Layout Path
-pathField = led (within 2 1 256) (λ p. length (p .steps)) (λ m.
-    view (seq (such (times m stepField) rise) (λ _. endField m)) (λ x. record { steps = x .0; end = x .1 }) (λ p. (p .steps, p .end)))
+pathField = led (within 2 1 256) (λ p. length (p .steps)) pathBody

@@ -27,7 +27,7 @@ andThen (got x r) f = f x r
 andThen bad f = bad
 
 -- n bytes, whatever they are
-abbrev pub block : ℕ → Layout Bytes
+unfoldable pub block : ℕ → Layout Bytes
 block n = record {
   Fits = λ x. (length x ≡ n) × Bytewise x;
   bytes = λ x. x;
@@ -35,7 +35,7 @@ block n = record {
 }
 
 -- these very bytes
-abbrev pub fixed : Bytes → Layout (Unit {0})
+unfoldable pub fixed : Bytes → Layout (Unit {0})
 fixed s = record {
   Fits = λ x. Unit {0};
   bytes = λ x. s;
@@ -43,7 +43,7 @@ fixed s = record {
 }
 
 -- a number in k bytes, from low to high
-abbrev pub within : ℕ → ℕ → ℕ → Layout ℕ
+unfoldable pub within : ℕ → ℕ → ℕ → Layout ℕ
 within k low high = record {
   Fits = λ n. (low ≤ n) × (n ≤ high) × (n < 256 ^ k);
   bytes = λ n. be k n;
@@ -51,7 +51,7 @@ within k low high = record {
 }
 
 -- one behind the other; the second may depend on the first
-abbrev pub seq : {A B : Type 0} → Layout A → (A → Layout B) → Layout (A × B)
+unfoldable pub seq : {A B : Type 0} → Layout A → (A → Layout B) → Layout (A × B)
 seq a b = record {
   Fits = λ x. a .Fits (x .0) × b (x .0) .Fits (x .1);
   bytes = λ x. a .bytes (x .0) ++ b (x .0) .bytes (x .1);
@@ -59,7 +59,7 @@ seq a b = record {
 }
 
 -- a number that the value determines (a length, a count, a kind), and behind it what it says
-abbrev pub led : {A : Type 0} → Layout ℕ → (A → ℕ) → (ℕ → Layout A) → Layout A
+unfoldable pub led : {A : Type 0} → Layout ℕ → (A → ℕ) → (ℕ → Layout A) → Layout A
 led n size a = record {
   Fits = λ x. n .Fits (size x) × a (size x) .Fits x;
   bytes = λ x. n .bytes (size x) ++ a (size x) .bytes x;
@@ -75,7 +75,7 @@ unfoldable pub timesBytes : {A : Type 0} → (A → Bytes) → List A → Bytes
 timesBytes bytes [] = []
 timesBytes bytes (x ∷ l) = bytes x ++ timesBytes bytes l
 
-abbrev pub times : {A : Type 0} → ℕ → Layout A → Layout (List A)
+unfoldable pub times : {A : Type 0} → ℕ → Layout A → Layout (List A)
 times n a = record {
   Fits = λ l. (length l ≡ n) × All (a .Fits) l;
   bytes = timesBytes (a .bytes);
@@ -83,7 +83,7 @@ times n a = record {
 }
 
 -- those that pass a test
-abbrev pub such : {A : Type 0} → Layout A → (A → Bool) → Layout A
+unfoldable pub such : {A : Type 0} → Layout A → (A → Bool) → Layout A
 such a test = record {
   Fits = λ x. a .Fits x × (test x ≡ true);
   bytes = a .bytes;
@@ -91,7 +91,7 @@ such a test = record {
 }
 
 -- the same in other words: `to` takes a value over, `from` takes it back
-abbrev pub view : {A B : Type 0} → Layout A → (A → B) → (B → A) → Layout B
+unfoldable pub view : {A B : Type 0} → Layout A → (A → B) → (B → A) → Layout B
 view a to from = record {
   Fits = λ y. a .Fits (from y) × (to (from y) ≡ y);
   bytes = λ y. a .bytes (from y);
@@ -99,7 +99,7 @@ view a to from = record {
 }
 
 -- no value at all
-abbrev pub never : {A : Type 0} → Layout A
+unfoldable pub never : {A : Type 0} → Layout A
 never = record { Fits = λ x. ⊥; bytes = λ x. []; read = λ s. bad }
 
 -- "Nothing may follow the last field.": the value of the whole bytes

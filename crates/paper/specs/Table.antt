@@ -30,8 +30,11 @@ pub record Update : Type 0 where
   pub opening : Bytes
 
 -- "name length 1, name 64", "key length 1, key 64": a length of 1 to 64, the bytes, "unused bytes zero"
+abbrev pub filledBody : ℕ → Layout Bytes
+filledBody n = view (seq (block n) (λ _. fixed (zeros (64 - n)))) (λ x. x .0) (λ s. (s, tt))
+
 abbrev pub filledField : Layout Bytes
-filledField = led (within 1 1 64) length (λ n. view (seq (block n) (λ _. fixed (zeros (64 - n)))) (λ x. x .0) (λ s. (s, tt)))
+filledField = led (within 1 1 64) length filledBody
 
 abbrev pub nameField : Layout Bytes
 nameField = such filledField isName
