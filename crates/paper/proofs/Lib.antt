@@ -5,3 +5,9 @@ pub mod Bytes
 pub mod Layouts
 pub mod Proofs
 pub mod Tree
+pub mod Strings
+pub mod Rows
+pub mod Marker
+pub mod Verdicts
+pub mod Fits
+pub mod Counts

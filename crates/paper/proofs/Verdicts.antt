@@ -1,0 +1,62 @@
+-- What a verdict over tests in order comes to. Assumes nothing.
+use mathlib.Core.Path.{_≡_, refl, sym, ap, _∙_}
+use mathlib.Core.Logic.{_⊎_, inl, inr}
+use mathlib.Core.Bool.{Bool, true, false, cond}
+use mathlib.Core.List.{List, [], _∷_, _++_}
+use Prim.Native.Nat.{ℕ}
+use Rattle.paper.specs.Lists.{_∈_, All}
+use Rattle.paper.specs.Verdict.{Test, verdict}
+
+abbrev pub Hold : List Test → Type 0
+Hold = All (λ t. t .holds ≡ true)
+
+-- the first of the tests that fails, behind those that hold
+pub record FirstFails (ts : List Test) (n : ℕ) : Type 0 where
+  pub passed : List Test
+  pub failed : Test
+  pub rest : List Test
+  pub split : passed ++ (failed ∷ rest) ≡ ts
+  pub hold : Hold passed
+  pub fails : failed .holds ≡ false
+  pub number : failed .number ≡ n
+
+module _ {A : Type 0} (refuse : ℕ → A) (answer : A) where
+  -- all hold, and it is the answer; or one is the first that fails, and it is the refusal with that number
+  pub verdict-cases : (ts : List Test) → (Hold ts × (verdict refuse answer ts ≡ answer)) ⊎ ((n : ℕ) × FirstFails ts n × (verdict refuse answer ts ≡ refuse n))
+  unfolding verdict
+  verdict-cases [] = inl (tt, refl)
+  verdict-cases (t ∷ ts) = by (t .holds) refl (verdict-cases ts)
+    where
+      Goal : Bool → Type 0
+      Goal b = (Hold (t ∷ ts) × (cond b (verdict refuse answer ts) (refuse (t .number)) ≡ answer))
+          ⊎ ((n : ℕ) × FirstFails (t ∷ ts) n × (cond b (verdict refuse answer ts) (refuse (t .number)) ≡ refuse n))
+
+      by : (b : Bool) → t .holds ≡ b → (Hold ts × (verdict refuse answer ts ≡ answer)) ⊎ ((n : ℕ) × FirstFails ts n × (verdict refuse answer ts ≡ refuse n)) → Goal b
+      by true e (inl (h, q)) = inl ((e, h), q)
+      by true e (inr (n, f, q)) = inr (
+        n,
+        record {
+          passed = t ∷ f .passed;
+          failed = f .failed;
+          rest = f .rest;
+          split = ap (λ l. t ∷ l) (f .split);
+          hold = (e, f .hold);
+          fails = f .fails;
+          number = f .number;
+        },
+        q,
+      )
+      by false e w = inr (t .number, record { passed = []; failed = t; rest = ts; split = refl; hold = tt; fails = e; number = refl }, refl)
+
+  pub verdict-all : (ts : List Test) → Hold ts → verdict refuse answer ts ≡ answer
+  unfolding verdict
+  verdict-all [] h = refl
+  verdict-all (t ∷ ts) h = rw (h .0) (verdict-all ts (h .1))
+
+  pub verdict-first : (ts : List Test) (n : ℕ) → FirstFails ts n → verdict refuse answer ts ≡ refuse n
+  unfolding verdict
+  verdict-first ts n f = ap (verdict refuse answer) (sym (f .split)) ∙ go (f .passed) (f .hold)
+    where
+      go : (ps : List Test) → Hold ps → verdict refuse answer (ps ++ (f .failed ∷ f .rest)) ≡ refuse n
+      go [] h = rw (f .fails) (ap refuse (f .number))
+      go (p ∷ ps) h = rw (h .0) (go ps (h .1))
