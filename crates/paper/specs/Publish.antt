@@ -10,7 +10,7 @@ use Rattle.paper.specs.Bytes.{Bytes, pasted}
 use Rattle.paper.specs.Labelling.{Labelling, plain, sameName}
 use Rattle.paper.specs.Layout.{Read, got, bad, times, timesBytes, parse}
 use Rattle.paper.specs.Verdict.{Test, test, verdict}
-use Rattle.paper.specs.Table.{Record, Update, recordField, updateField, recordsWithin, headsWithin, counted, headLies, ownRecords, inShape, allAt, oldAt, headDigest, distinct}
+use Rattle.paper.specs.Table.{Record, Update, recordField, updateField, recordsWithin, headsWithin, counted, headLies, ownRecords, lastVersion, inShape, allAt, oldAt, headDigest, distinct}
 use Rattle.paper.specs.declared.State.{State}
 use Rattle.paper.specs.declared.StartAnswer.{StartAnswer}
 use Rattle.paper.specs.declared.StartAnswer.the-variants as S
@@ -38,7 +38,7 @@ pub record Published : Type 0 where
 module _ (lab : Labelling) where
   -- "Publishing appends the batch in its order with the next epoch. Each name takes its next version, from 1."
   abbrev pub newRecord : List Record → ℕ → Update → Record
-  newRecord rs e u = record { name = u .name; version = suc (length (ownRecords lab (u .name) rs)); epoch = e; key = u .key; opening = u .opening }
+  newRecord rs e u = record { name = u .name; version = suc (lastVersion (ownRecords lab (u .name) rs)); epoch = e; key = u .key; opening = u .opening }
 
   -- "a name twice in a batch"
   unfoldable pub once : List Update → Bool

@@ -70,6 +70,21 @@ counted records count = parse (times count recordField) (take (count * recordSiz
 unfoldable pub headLies : Bytes → ℕ → Bool
 headLies heads epoch = leb (suc epoch * wide) (length heads)
 
+-- "The tree of epoch t has the leaves with epoch at most t."
+unfoldable pub byEpoch : ℕ → List Record → List Record
+byEpoch t rs = keep (λ r. leb (r .epoch) t) rs
+
+-- "Epoch 0 has 32 zero bytes as previous head"; "A previous head is read from the head table, and no other head is."
+abbrev pub previousHead : Bytes → ℕ → Bytes
+previousHead heads zero = zeros wide
+previousHead heads (suc t) = headAt heads t
+
+-- the version of the last record, or 0
+unfoldable pub lastVersion : List Record → ℕ
+lastVersion [] = 0
+lastVersion (r ∷ []) = r .version
+lastVersion (r ∷ q ∷ rs) = lastVersion (q ∷ rs)
+
 module _ (lab : Labelling) where
   -- a name's own records, in order
   unfoldable pub ownRecords : Bytes → List Record → List Record
@@ -102,21 +117,13 @@ module _ (lab : Labelling) where
   unfoldable pub oldLeaves : Record → List Node
   oldLeaves r = cond (ltb 1 (r .version)) (leafOf version (r .version - 1) (r .name) (zeros wide) (r .epoch) ∷ []) []
 
-  -- "The tree of epoch t has the leaves with epoch at most t."
-  unfoldable pub byEpoch : ℕ → List Record → List Record
-  byEpoch t rs = keep (λ r. leb (r .epoch) t) rs
-
   abbrev pub allAt : ℕ → List Record → List Node
   allAt t rs = flatMap allLeaves (byEpoch t rs)
 
   abbrev pub oldAt : ℕ → List Record → List Node
   oldAt t rs = flatMap oldLeaves (byEpoch t rs)
 
-  -- the head of epoch t: "Epoch 0 has 32 zero bytes as previous head"; "A previous head is read from the head table"
-  abbrev pub previousHead : Bytes → ℕ → Bytes
-  previousHead heads zero = zeros wide
-  previousHead heads (suc t) = headAt heads t
-
+  -- the head of epoch t
   abbrev pub headOf : Bytes → ℕ → List Record → Head
   headOf heads t rs = record { epoch = t; previous = previousHead heads t; all = rootDigest (allAt t rs); old = rootDigest (oldAt t rs) }
 

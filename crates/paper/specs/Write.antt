@@ -19,7 +19,7 @@ use Rattle.paper.specs.Shows.{Place, inAll, inOld, asMarker, Asked, Item
 use Rattle.paper.specs.Lookup.{lookupAsked, lookupField}
 use Rattle.paper.specs.History.{historyAsked, historyField}
 use Rattle.paper.specs.Audit.{AuditRecord, unchanged, opened, fresh, Audit, auditField}
-use Rattle.paper.specs.Table.{Record, recordsWithin, headsWithin, counted, headLies, inShape, ownRecords, byEpoch, allAt, oldAt, headOf, holds, distinct}
+use Rattle.paper.specs.Table.{Record, recordsWithin, headsWithin, counted, headLies, inShape, ownRecords, lastVersion, byEpoch, allAt, oldAt, headOf, holds, distinct}
 use Rattle.paper.specs.declared.State.{State}
 use Rattle.paper.specs.declared.WriteAnswer.{WriteAnswer}
 use Rattle.paper.specs.declared.WriteAnswer.the-variants as W
@@ -29,20 +29,20 @@ pub record Written : Type 0 where
   pub answer : WriteAnswer
   pub out : Bytes
 
-module _ (lab : Labelling) (name : Bytes) (heads : Bytes) (t : ℕ) (rs : List Record) where
+abbrev pub itemOf : Record → Item
+itemOf r = record { key = r .key; opening = r .opening }
+
+-- the key of the last version
+unfoldable pub lastItem : List Record → List Item
+lastItem [] = []
+lastItem (r ∷ []) = itemOf r ∷ []
+lastItem (r ∷ q ∷ rs) = lastItem (q ∷ rs)
+
+module _ (lab : Labelling) (name : Bytes) (t : ℕ) (rs : List Record) where
   -- "A lookup at epoch t answers the name's last version with epoch at most t, or version 0; a history answers all its versions by
   -- then."
   abbrev pub versionsBy : List Record
-  versionsBy = ownRecords lab name (byEpoch lab t rs)
-
-  abbrev pub itemOf : Record → Item
-  itemOf r = record { key = r .key; opening = r .opening }
-
-  -- the key of the last version
-  unfoldable pub lastItem : List Record → List Item
-  lastItem [] = []
-  lastItem (r ∷ []) = itemOf r ∷ []
-  lastItem (r ∷ q ∷ rs) = lastItem (q ∷ rs)
+  versionsBy = ownRecords lab name (byEpoch t rs)
 
   abbrev pub leavesAt : Place → List Node
   leavesAt (inAll i) = allAt lab t rs
@@ -58,16 +58,17 @@ module _ (lab : Labelling) (name : Bytes) (heads : Bytes) (t : ℕ) (rs : List R
   unclashed asked = distinct (allAt lab t rs) && (distinct (oldAt lab t rs)
       && every (λ a. a .there || not (holds (labelAt lab name (a .place)) (leavesAt (a .place)))) asked)
 
-  abbrev pub lookupProof : Proof
-  lookupProof = record {
+  -- "A previous head is read from the head table"
+  abbrev pub lookupProof : Bytes → Proof
+  lookupProof heads = record {
     head = headOf lab heads t rs;
-    number = length versionsBy;
+    number = lastVersion versionsBy;
     items = lastItem versionsBy;
-    paths = pathsOf (lookupAsked (length versionsBy));
+    paths = pathsOf (lookupAsked (lastVersion versionsBy));
   }
 
-  abbrev pub historyProof : Proof
-  historyProof = record {
+  abbrev pub historyProof : Bytes → Proof
+  historyProof heads = record {
     head = headOf lab heads t rs;
     number = length versionsBy;
     items = map itemOf versionsBy;
@@ -127,14 +128,14 @@ module _ (lab : Labelling) where
     abbrev pub writeLookup : Bytes → ℕ → Written
     writeLookup name t =
         writeWith (isName name) t
-        (λ rs. unclashed lab name heads t rs (lookupAsked (length (versionsBy lab name heads t rs))))
-        (λ rs. lookupField .bytes (lookupProof lab name heads t rs))
+        (λ rs. unclashed lab name t rs (lookupAsked (lastVersion (versionsBy lab name t rs))))
+        (λ rs. lookupField .bytes (lookupProof lab name t rs heads))
 
     abbrev pub writeHistory : Bytes → ℕ → Written
     writeHistory name t =
         writeWith (isName name) t
-        (λ rs. unclashed lab name heads t rs (historyAsked (length (versionsBy lab name heads t rs)) t))
-        (λ rs. historyField .bytes (historyProof lab name heads t rs))
+        (λ rs. unclashed lab name t rs (historyAsked (length (versionsBy lab name t rs)) t))
+        (λ rs. historyField .bytes (historyProof lab name t rs heads))
 
     -- "or an audit writer's new epoch is 0"
     abbrev pub writeAudit : ℕ → Written
