@@ -1,0 +1,51 @@
+-- Where two labels differ first, from their bits. Assumes nothing.
+use mathlib.Core.Path.{_≡_, refl, sym, ap, _∙_}
+use mathlib.Core.Bool.{Bool, true, false, cond, Bool·beq}
+use mathlib.Core.List.{List, [], _∷_}
+use Prim.Native.Nat.{ℕ, zero, suc, _*_, _<_, _≤_}
+use native.Mathlib.Omega.{arith}
+use lib.ListN.{length, take, getD, length-take}
+use lib.Seq.{getD-take}
+use Rattle.paper.specs.Bytes.{Bytes}
+use Rattle.paper.specs.Bits.{Bits, bitsOf, lcp, firstDifference}
+use Rattle.paper.proofs.Lists.{not-both}
+use Rattle.paper.proofs.Bytes.{bitsOf-length}
+use Rattle.bits.proofs.Bits.{take-bitsOf}
+
+-- two strings of bits that agree below r and, where both go on, differ at r: r is the length of their longest common prefix
+pub lcp-length : (r : ℕ) (x y : Bits) → r ≤ length x → r ≤ length y → ((i : ℕ) → i < r → getD x i false ≡ getD y i false)
+    → (r < length x → r < length y → getD x r false ≡ getD y r false → ⊥) → r ≡ length (lcp x y)
+unfolding lcp
+lcp-length zero [] y h k same ends = refl
+lcp-length zero (a ∷ x) [] h k same ends = refl
+lcp-length zero (true ∷ x) (true ∷ y) h k same ends = absurd (ends (omega arith) (omega arith) refl)
+lcp-length zero (false ∷ x) (false ∷ y) h k same ends = absurd (ends (omega arith) (omega arith) refl)
+lcp-length zero (true ∷ x) (false ∷ y) h k same ends = refl
+lcp-length zero (false ∷ x) (true ∷ y) h k same ends = refl
+lcp-length (suc r) [] y h k same ends = absurd (omega arith)
+lcp-length (suc r) (a ∷ x) [] h k same ends = absurd (omega arith)
+lcp-length (suc r) (true ∷ x) (true ∷ y) h k same ends =
+    ap suc (lcp-length r x y (omega arith) (omega arith) (λ i l. same (suc i) (omega arith)) (λ l m. ends (omega arith) (omega arith)))
+lcp-length (suc r) (false ∷ x) (false ∷ y) h k same ends =
+    ap suc (lcp-length r x y (omega arith) (omega arith) (λ i l. same (suc i) (omega arith)) (λ l m. ends (omega arith) (omega arith)))
+lcp-length (suc r) (true ∷ x) (false ∷ y) h k same ends = not-both refl (same 0 (omega arith))
+lcp-length (suc r) (false ∷ x) (true ∷ y) h k same ends = not-both (same 0 (omega arith)) refl
+
+-- the bits of a label: those of the slice, up to 256
+label-bits : (s : Bytes) (i : ℕ) → i < 256 → getD (bitsOf (take 32 s)) i false ≡ getD (bitsOf s) i false
+label-bits s i h = ap (λ p. getD p i false) (sym (take-bitsOf 32 s)) ∙ getD-take 256 (bitsOf s) i false h
+
+-- the same of the labels in two slices, from the bits of the slices
+pub first-is : (a b : Bytes) (r : ℕ) → r ≤ 256 → r ≤ length a * 8 → r ≤ length b * 8
+    → ((i : ℕ) → i < r → getD (bitsOf a) i false ≡ getD (bitsOf b) i false)
+    → (r < 256 → r < length a * 8 → r < length b * 8 → getD (bitsOf a) r false ≡ getD (bitsOf b) r false → ⊥)
+    → r ≡ firstDifference (take 32 a) (take 32 b)
+unfolding firstDifference
+first-is a b r h ha hb same ends =
+    let na = bitsOf-length (take 32 a) in
+    let nb = bitsOf-length (take 32 b) in
+    let ta = length-take 32 a in
+    let tb = length-take 32 b in
+    lcp-length r (bitsOf (take 32 a)) (bitsOf (take 32 b)) (omega arith) (omega arith)
+    (λ i l. label-bits a i (omega arith) ∙ same i l ∙ sym (label-bits b i (omega arith)))
+    (λ l m e. ends (omega arith) (omega arith) (omega arith) (sym (label-bits a r (omega arith)) ∙ e ∙ label-bits b r (omega arith)))
