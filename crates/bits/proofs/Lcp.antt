@@ -1,6 +1,6 @@
 -- Where two labels differ first, from their bits. Assumes nothing.
 use mathlib.Core.Path.{_≡_, refl, sym, ap, _∙_}
-use mathlib.Core.Bool.{Bool, true, false, cond, Bool·beq}
+use mathlib.Core.Bool.{Bool, true, false, not, cond, Bool·beq}
 use mathlib.Core.List.{List, [], _∷_}
 use Prim.Native.Nat.{ℕ, zero, suc, _*_, _<_, _≤_}
 use native.Mathlib.Omega.{arith}
@@ -12,8 +12,25 @@ use Rattle.paper.proofs.Lists.{not-both}
 use Rattle.paper.proofs.Bytes.{bitsOf-length}
 use Rattle.bits.proofs.Bits.{take-bitsOf}
 
+-- what a comparison of two bits tells
+pub bits-same : (a b : Bool) → not (Bool·beq a b) ≡ false → a ≡ b
+bits-same true true e = refl
+bits-same false false e = refl
+bits-same true false e = e
+bits-same false true e = sym e
+
+pub bits-differ : (a b : Bool) → not (Bool·beq a b) ≡ true → a ≡ b → ⊥
+bits-differ true true e q = not-both e refl
+bits-differ false false e q = not-both e refl
+bits-differ true false e q = not-both refl q
+bits-differ false true e q = not-both q refl
+
+-- the bits below r agree
+abbrev pub Agree : Bits → Bits → ℕ → Type 0
+Agree x y r = (i : ℕ) → i < r → getD x i false ≡ getD y i false
+
 -- two strings of bits that agree below r and, where both go on, differ at r: r is the length of their longest common prefix
-pub lcp-length : (r : ℕ) (x y : Bits) → r ≤ length x → r ≤ length y → ((i : ℕ) → i < r → getD x i false ≡ getD y i false)
+pub lcp-length : (r : ℕ) (x y : Bits) → r ≤ length x → r ≤ length y → Agree x y r
     → (r < length x → r < length y → getD x r false ≡ getD y r false → ⊥) → r ≡ length (lcp x y)
 unfolding lcp
 lcp-length zero [] y h k same ends = refl
@@ -37,7 +54,7 @@ label-bits s i h = ap (λ p. getD p i false) (sym (take-bitsOf 32 s)) ∙ getD-t
 
 -- the same of the labels in two slices, from the bits of the slices
 pub first-is : (a b : Bytes) (r : ℕ) → r ≤ 256 → r ≤ length a * 8 → r ≤ length b * 8
-    → ((i : ℕ) → i < r → getD (bitsOf a) i false ≡ getD (bitsOf b) i false)
+    → Agree (bitsOf a) (bitsOf b) r
     → (r < 256 → r < length a * 8 → r < length b * 8 → getD (bitsOf a) r false ≡ getD (bitsOf b) r false → ⊥)
     → r ≡ firstDifference (take 32 a) (take 32 b)
 unfolding firstDifference

@@ -37,9 +37,12 @@ log2-only v j h low high =
     let s = log2-spec v (omega (arith, lib.Pow.pow-pos j)) h in
     le-antisymm (pow-order j (log2 v) v low (s .1)) (pow-order (log2 v) j v (s .0) high)
 
--- of 32 bits: the leading zeros, the top bit, and as many bits below it as floor (log2 v) says
+-- the leading zeros, the top bit, and the bits below it, as many as floor (log2 v) says, make 32
 pub leading-log2 : (v : ℕ) → 0 < v → v < 2 ^ 32 → leadingZeros 32 v + suc (log2 v) ≡ 32
 leading-log2 v h l =
     let (j, e, low, high) = leading-top 32 v h l in
     let q : j ≡ log2 v = log2-only v j l low high in
     omega arith
+
+pub marker-log2 : (v : ℕ) → 0 < v → v < 2 ^ 32 → 31 - leadingZeros 32 v ≡ log2 v
+marker-log2 v h l = omega (arith, leading-log2 v h l)

@@ -1,17 +1,16 @@
 // Prefixes of labels, cut by masks: "prefix 32 (bits past the length zero)".
 ghost use mathlib.Core.Path.{_≡_};
+ghost use Prim.Native.Nat.{_<_};
 ghost use lib.ListN.{take};
 ghost use Rattle.paper.specs.Bits.{toBits, fromBits, bitsOf, pack};
 
-// The first n bits of a byte, the rest zero: the whole byte from 8 on.
+// The first n bits of a byte, the rest zero: the whole byte from 8 on. A byte can't be shifted by 8, so n is not 0.
 fn kept(b: u8, n: usize) -> u8
+    requires { ⌜ 0 < n ⌝ }
     ensures { λ r. ⌜ r ≡ fromBits 8 (take n (toBits 8 b)) ⌝ }
 {
     if 8 <= n {
         return b;
-    }
-    if n == 0 {
-        return 0;
     }
     b & (255u8 << (8 - n))
 }

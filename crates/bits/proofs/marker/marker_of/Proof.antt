@@ -1,19 +1,22 @@
+-- `bits::marker::marker_of` gives floor (log2 v), by the law on leading zeros. Assumes nothing.
+use mathlib.Core.Path.{sym, ap}
+use native.Mathlib.Omega.{arith}
+use Rattle.paper.specs.Bits.{topPower, log2}
+use Rattle.bits.proofs.Log.{leading-log2, marker-log2}
 use Rattle.bits.proofs.marker.marker_of.Statement.{statement}
 use Rattle.bits.proofs.marker.marker_of.Tie as tie
 use Rattle.bits.proofs.marker.marker_of.Reads as reads
 use Rattle.bits.proofs.marker.marker_of.Lts as lts
 
--- src/marker.rt:10:9
 returns : tie.Need-returns
-returns c = ?
+unfolding log2 topPower
+returns c = sym (ap log2 (c .if1 .taken))
 
--- src/marker.rt:12:5
 sub-result : tie.Need-sub-result
-sub-result c = ?
+sub-result c = omega (arith, leading-log2 (c .before .args .v) (omega arith) (omega arith))
 
--- src/marker.rt:6:1
 returns-2 : tie.Need-returns-2
-returns-2 c = ?
+returns-2 c = marker-log2 (c .before .args .v) (omega arith) (omega arith)
 
 pub marker-of-spec : {M : Type 1} → statement M
 marker-of-spec = tie.close (tie.spec returns sub-result returns-2)

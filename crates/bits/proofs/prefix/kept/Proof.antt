@@ -1,32 +1,30 @@
+-- `bits::prefix::kept` gives the number of the byte's first n bits: a mask of n ones keeps them. Assumes nothing.
+use mathlib.Core.Path.{_≡_, sym}
+use Prim.Native.Nat.{_-_}
+use native.Mathlib.Omega.{arith}
 use borrow.Author.Needs.{needs}
+use Rattle.bits.proofs.Pack.{fromBits-take, masked}
 use Rattle.bits.proofs.prefix.kept.Statement.{statement}
 use Rattle.bits.proofs.prefix.kept.Tie as tie
-use Rattle.bits.proofs.prefix.kept.Reads as reads
-use Rattle.bits.proofs.prefix.kept.Lts as lts
 
--- src/prefix.rt:11:9
 returns : tie.Need-returns
-returns c = ?
+returns c =
+    let e : 8 - c .before .args .n ≡ 0 = omega arith in
+    let k = fromBits-take 8 (c .before .args .n) (c .before .args .b) (omega arith) in
+    let m = rw e at k in
+    omega arith
 
--- src/prefix.rt:14:9
-returns-2 : tie.Need-returns-2
-returns-2 c = ?
-
--- src/prefix.rt:16:20
 sub-result : tie.Need-sub-result
 sub-result c = search needs
 
--- src/prefix.rt:16:20
 cast-result : tie.Need-cast-result
 cast-result c = search needs
 
--- src/prefix.rt:16:10
 shl-result : tie.Need-shl-result
 shl-result c = search needs
 
--- src/prefix.rt:7:1
-returns-3 : tie.Need-returns-3
-returns-3 c = ?
+returns-2 : tie.Need-returns-2
+returns-2 c = masked (c .before .args .b) (c .before .args .n) (omega arith) (omega arith)
 
 pub kept-spec : {M : Type 1} → statement M
-kept-spec = tie.close (tie.spec returns returns-2 sub-result cast-result shl-result returns-3)
+kept-spec = tie.close (tie.spec returns sub-result cast-result shl-result returns-2)
