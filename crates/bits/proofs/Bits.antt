@@ -1,8 +1,8 @@
 -- A bit of a number, and of bytes, by division: what a shift picks. Assumes nothing.
 use mathlib.Core.Path.{_≡_, refl, sym, ap, _∙_, subst}
-use mathlib.Core.Bool.{Bool, true, false}
-use mathlib.Core.List.{List, [], _∷_, _++_}
-use Prim.Native.Nat.{ℕ, zero, suc, _+_, _-_, _*_, _/_, _%_, _^_, _<_, _≤_}
+use mathlib.Core.Bool.{false}
+use mathlib.Core.List.{[], _∷_, _++_}
+use Prim.Native.Nat.{ℕ, zero, suc, _+_, _-_, _*_, _/_, _%_, _^_, _<_}
 use native.Mathlib.Nat.{mod-lt, zero-div, div-add-mod', div-lt-iff-lt-mul}
 use native.Mathlib.Omega.{arith}
 use lib.Dec.{leb, eqb}
@@ -10,7 +10,7 @@ use lib.ListN.{length, take, drop, getD, List·getD-append}
 use lib.Seq.{getD-append-add, drop-append-add, take-append-add, drop-nil, take-nil}
 use lib.Pow.{pow-pos, field, mod-mod-pow}
 use Rattle.paper.specs.Bytes.{Bytes}
-use Rattle.paper.specs.Bits.{Bits, toBits, bitsOf}
+use Rattle.paper.specs.Bits.{toBits, bitsOf}
 use Rattle.paper.proofs.Bytes.{toBits-length}
 
 -- ---- a number's bits

@@ -1,9 +1,10 @@
 -- Where two labels differ first, from their bits. Assumes nothing.
 use mathlib.Core.Path.{_≡_, refl, sym, ap, _∙_}
-use mathlib.Core.Bool.{Bool, true, false, not, cond, Bool·beq}
-use mathlib.Core.List.{List, [], _∷_}
-use Prim.Native.Nat.{ℕ, zero, suc, _*_, _<_, _≤_}
+use mathlib.Core.Bool.{Bool, true, false, not, Bool·beq}
+use mathlib.Core.List.{[], _∷_}
+use Prim.Native.Nat.{ℕ, zero, suc, _+_, _*_, _<_, _≤_}
 use native.Mathlib.Omega.{arith}
+use borrow.Author.Count.{below-more}
 use lib.ListN.{length, take, getD, length-take}
 use lib.Seq.{getD-take}
 use Rattle.paper.specs.Bytes.{Bytes}
@@ -29,6 +30,9 @@ bits-differ false true e q = not-both q refl
 abbrev pub Agree : Bits → Bits → ℕ → Type 0
 Agree x y r = (i : ℕ) → i < r → getD x i false ≡ getD y i false
 
+pub agree-more : (x y : Bits) (r : ℕ) → Agree x y r → getD x r false ≡ getD y r false → Agree x y (r + 1)
+agree-more x y = below-more (λ i. getD x i false ≡ getD y i false)
+
 -- two strings of bits that agree below r and, where both go on, differ at r: r is the length of their longest common prefix
 pub lcp-length : (r : ℕ) (x y : Bits) → r ≤ length x → r ≤ length y → Agree x y r
     → (r < length x → r < length y → getD x r false ≡ getD y r false → ⊥) → r ≡ length (lcp x y)
@@ -53,12 +57,12 @@ label-bits : (s : Bytes) (i : ℕ) → i < 256 → getD (bitsOf (take 32 s)) i f
 label-bits s i h = ap (λ p. getD p i false) (sym (take-bitsOf 32 s)) ∙ getD-take 256 (bitsOf s) i false h
 
 -- the same of the labels in two slices, from the bits of the slices
-pub first-is : (a b : Bytes) (r : ℕ) → r ≤ 256 → r ≤ length a * 8 → r ≤ length b * 8
+pub firstDifference-at : (a b : Bytes) (r : ℕ) → r ≤ 256 → r ≤ length a * 8 → r ≤ length b * 8
     → Agree (bitsOf a) (bitsOf b) r
     → (r < 256 → r < length a * 8 → r < length b * 8 → getD (bitsOf a) r false ≡ getD (bitsOf b) r false → ⊥)
     → r ≡ firstDifference (take 32 a) (take 32 b)
 unfolding firstDifference
-first-is a b r h ha hb same ends =
+firstDifference-at a b r h ha hb same ends =
     let na = bitsOf-length (take 32 a) in
     let nb = bitsOf-length (take 32 b) in
     let ta = length-take 32 a in

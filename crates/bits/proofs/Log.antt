@@ -1,5 +1,5 @@
 -- floor (log2 v) by powers of two, and by leading zeros. Assumes nothing.
-use mathlib.Core.Path.{_≡_, refl, sym, ap, _∙_}
+use mathlib.Core.Path.{_≡_, refl}
 use mathlib.Core.Logic.{by-cases}
 use mathlib.Core.Bool.{Bool, true, false, cond}
 use Prim.Native.Nat.{ℕ, zero, suc, _+_, _-_, _^_, _<_, _≤_}
@@ -7,7 +7,7 @@ use native.Mathlib.Decide.{decLe}
 use native.Mathlib.Nat.{le-antisymm}
 use native.Mathlib.Omega.{arith}
 use lib.Dec.{leb}
-use lib.Pow.{pow-mono}
+use lib.Pow.{pow-pos, pow-mono}
 use lib.Count.{leadingZeros, leading-top}
 use borrow.Author.Tests.{leb-true, leb-false}
 use Rattle.paper.specs.Bits.{topPower, log2}
@@ -34,7 +34,7 @@ pow-order i j v h l = by-cases (decLe i j) (λ k. k) (λ n. absurd (omega (arith
 -- no other number has a power so near
 pub log2-only : (v j : ℕ) → v < 2 ^ 32 → 2 ^ j ≤ v → v < 2 ^ suc j → j ≡ log2 v
 log2-only v j h low high =
-    let s = log2-spec v (omega (arith, lib.Pow.pow-pos j)) h in
+    let s = log2-spec v (omega (arith, pow-pos j)) h in
     le-antisymm (pow-order j (log2 v) v low (s .1)) (pow-order (log2 v) j v (s .0) high)
 
 -- the leading zeros, the top bit, and the bits below it, as many as floor (log2 v) says, make 32

@@ -1,6 +1,5 @@
 -- Prefixes in bytes: each byte of a prefix, what a mask keeps of a byte, and a prefix that grows by a byte. Assumes nothing.
-use mathlib.Core.Path.{_≡_, refl, sym, ap, ap₂, _∙_, subst}
-use mathlib.Core.Bool.{Bool, true, false}
+use mathlib.Core.Path.{_≡_, refl, sym, ap, _∙_, subst}
 use mathlib.Core.List.{List, [], _∷_, _++_}
 use Prim.Native.Nat.{ℕ, zero, suc, _+_, _-_, _*_, _/_, _%_, _^_, _<_, _≤_}
 use native.Mathlib.Nat.{mod-lt, mod-eq-of-lt, mul-add-mod-self-right, zero-div, div-eq-of-lt, div-lt-iff-lt-mul, sub-zero, add-zero}
@@ -15,6 +14,7 @@ use Rattle.paper.specs.Bits.{Bits, toBits, fromBits, bitVal, bitsOf, pack}
 use Rattle.paper.proofs.Bytes.{toBits-length}
 use Rattle.bits.proofs.Bits.{drop-bitsOf}
 
+-- what is left of a beginning
 pub drop-take : {A : Type 0} (k n : ℕ) (l : List A) → drop k (take n l) ≡ take (n - k) (drop k l)
 drop-take zero n l = rw sub-zero
 drop-take (suc k) zero l = let e : 0 - suc k ≡ 0 = omega arith in rw e

@@ -27,8 +27,9 @@ pub fn first_difference(a: &[u8], b: &[u8]) -> usize
         }
         let mut k = 0;
         while k < 8 {
-            if label_bit(a, i * 8 + k) != label_bit(b, i * 8 + k) {
-                break 'bytes i * 8 + k;
+            let at = i * 8 + k;
+            if label_bit(a, at) != label_bit(b, at) {
+                break 'bytes at;
             }
             k += 1;
         }

@@ -5,8 +5,6 @@ use Rattle.paper.specs.Bits.{topPower, log2}
 use Rattle.bits.proofs.Log.{leading-log2, marker-log2}
 use Rattle.bits.proofs.marker.marker_of.Statement.{statement}
 use Rattle.bits.proofs.marker.marker_of.Tie as tie
-use Rattle.bits.proofs.marker.marker_of.Reads as reads
-use Rattle.bits.proofs.marker.marker_of.Lts as lts
 
 returns : tie.Need-returns
 unfolding log2 topPower

@@ -1,5 +1,5 @@
 -- `bits::prefix::kept` gives the number of the byte's first n bits: a mask of n ones keeps them. Assumes nothing.
-use mathlib.Core.Path.{_≡_, sym}
+use mathlib.Core.Path.{_≡_}
 use Prim.Native.Nat.{_-_}
 use native.Mathlib.Omega.{arith}
 use borrow.Author.Needs.{needs}

@@ -1,20 +1,17 @@
 -- `bits::prefix::prefix_of` packs the first n bits. The loop's invariant: the bits of the first i bytes are packed.
 -- It ends with the 32 bytes, with the label or with the n bits, and then all are. Assumes nothing.
 use mathlib.Core.Path.{_≡_, refl, sym, ap, ap₂, _∙_}
-use Prim.Native.Nat.{ℕ, _+_, _-_, _*_, _≤_}
+use Prim.Native.Nat.{_-_, _*_, _≤_}
 use native.Mathlib.Omega.{arith}
 use borrow.Author.Needs.{needs}
 use borrow.Author.Tests.{ltb-true, ltb-false}
-use lib.ListN.{length, take, set, length-take}
+use lib.ListN.{take, set, length-take}
 use lib.Seq.{take-all}
 use Rattle.paper.specs.Bits.{fromBits, bitsOf, pack}
-use Rattle.paper.proofs.Bytes.{bitsOf-length, pack-length}
+use Rattle.paper.proofs.Bytes.{bitsOf-length}
 use Rattle.bits.proofs.Pack.{prefix-byte, pack-grow, pack-whole}
 use Rattle.bits.proofs.prefix.prefix_of.Statement.{statement}
 use Rattle.bits.proofs.prefix.prefix_of.Tie as tie
-use Rattle.bits.proofs.prefix.prefix_of.Reads as reads
-use Rattle.bits.proofs.prefix.prefix_of.Lts as lts
-use Rattle.bits.proofs.prefix.kept.Reads as kept-reads
 
 abbrev Inv-loop : tie.InvT-loop
 Inv-loop label n out₀ i₀ out i = (i ≤ 32) × (out ≡ pack 32 (take (i * 8) (take n (bitsOf label))))
@@ -56,10 +53,11 @@ loop-again c =
     let n = start .args .n in
     let label = start .args .label .now in
     let at = c .before .before .before .before .before .loop in
-    let i = at .i in
-    (omega arith,
+    let i = at .i in (
+      omega arith,
       ap₂ (λ out b. set out i b) (at .inv .1) (c .kept .ensures ∙ sym (prefix-byte n label i))
-      ∙ pack-grow 32 i (take n (bitsOf label)))
+          ∙ pack-grow 32 i (take n (bitsOf label)),
+    )
 
 returns : tie.Need-returns Inv-loop μ-loop
 returns c =
