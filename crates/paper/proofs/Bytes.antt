@@ -160,7 +160,7 @@ pack-inj n p q h k e = ⊎-elim (λ u. pfx-full u (omega arith)) (λ u. sym (pfx
 pub bitsOf-pack : (n : ℕ) (p : Bits) → length p ≡ 8 * n → bitsOf (pack n p) ≡ p
 bitsOf-pack n p h = sym (pfx-full (pack-pfx n p (omega arith)) (omega (arith, bitsOf-length (pack n p), pack-length n p)))
 
-bit-val : (q : ℕ) → q < 2 → bitVal (leb 1 q) ≡ q
+pub bit-val : (q : ℕ) → q < 2 → bitVal (leb 1 q) ≡ q
 bit-val zero h = refl
 bit-val (suc zero) h = refl
 bit-val (suc (suc q)) h = absurd (omega arith)

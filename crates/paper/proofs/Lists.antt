@@ -3,9 +3,11 @@ use mathlib.Core.Path.{_≡_, refl, sym, ap, _∙_, subst}
 use mathlib.Core.Logic.{_⊎_, inl, inr, ⊎-elim}
 use mathlib.Core.Bool.{Bool, true, false, cond, _&&_, _||_}
 use mathlib.Core.List.{List, [], _∷_, _++_, map, head-eq-of-cons-eq, tail-eq-of-cons-eq}
-use Prim.Native.Nat.{ℕ, zero, suc, _+_, _≤_, _<_}
+use Prim.Native.Nat.{ℕ, zero, suc, _+_, _-_, _≤_, _<_}
+use native.Mathlib.Nat.{sub-zero}
 use native.Mathlib.Omega.{arith}
 use lib.ListN.{length, take, drop, length-append}
+use lib.Seq.{take-nil}
 use Rattle.paper.specs.Lists.{_∈_, All, every, some, keep, upFrom}
 
 -- a test that came out, for a proof by cases
@@ -57,6 +59,13 @@ module _ {A : Type 0} where
   all-drop P zero l h = h
   all-drop P (suc n) [] h = tt
   all-drop P (suc n) (a ∷ l) h = all-drop P n l (h .1)
+
+  -- what is left of a beginning
+  pub drop-take : (k n : ℕ) (l : List A) → drop k (take n l) ≡ take (n - k) (drop k l)
+  drop-take zero n l = rw sub-zero
+  drop-take (suc k) zero l = let e : 0 - suc k ≡ 0 = omega arith in rw e
+  drop-take (suc k) (suc n) [] = sym (take-nil (suc n - suc k))
+  drop-take (suc k) (suc n) (a ∷ l) = let e : suc n - suc k ≡ n - k = omega arith in rw e (drop-take k n l)
 
   -- a test of each is a test of all
   pub every-all : (t : A → Bool) (l : List A) → every t l ≡ true → All (λ a. t a ≡ true) l

@@ -7,7 +7,7 @@ use native.Mathlib.Omega.{arith}
 use native.Mathlib.Decide.{decLe}
 use lib.Dec.{leb}
 use lib.Pow.{pow-mono, pow-pos}
-use lib.Count.{leadingZeros, leading-unique}
+use lib.Count.{leadingZeros, leading-top}
 use borrow.Author.Tests.{leb-true, leb-false}
 use Rattle.paper.specs.Bits.{topPower, log2}
 
@@ -37,11 +37,13 @@ log2-unique n j m a b =
     let (c, d) = log2-spec n p m in
     omega (arith, pow-below j (log2 n) n a d, pow-below (log2 n) j n c b)
 
--- the marker number by leading zeros equals the definition by powers of two
-pub log2-leading : (n : ℕ) → 0 < n → n < 2 ^ 32 → 31 - leadingZeros 32 n ≡ log2 n
-log2-leading n h m =
-    let (c, d) = log2-spec n h m in
-    let j = log2 n in
-    let b : j ≤ 31 = pow-below j 31 n c m in
-    let z : 31 - j ≡ leadingZeros 32 n = leading-unique 32 n (31 - j) (suc j) (omega arith) d (omega arith) in
+-- the leading zeros, the top bit, and the bits below it, as many as floor (log2 n) says, make 32
+pub leading-log2 : (n : ℕ) → 0 < n → n < 2 ^ 32 → leadingZeros 32 n + suc (log2 n) ≡ 32
+leading-log2 n h m =
+    let (j, e, low, high) = leading-top 32 n h m in
+    let q : j ≡ log2 n = log2-unique n j m low high in
     omega arith
+
+-- so the marker number by leading zeros equals the definition by powers of two
+pub log2-leading : (n : ℕ) → 0 < n → n < 2 ^ 32 → 31 - leadingZeros 32 n ≡ log2 n
+log2-leading n h m = omega (arith, leading-log2 n h m)
