@@ -19,6 +19,7 @@ number-append (b ∷ s) t =
     rw (length-append s t, pow-add 256 (length s) (length t), number-append s t, add-mul (b * 256 ^ length s) (number s) (256 ^ length t))
     (rw (mul-assoc b (256 ^ length s) (256 ^ length t)) (sym (add-assoc (b * (256 ^ length s * 256 ^ length t)) (number s * 256 ^ length t) (number t))))
 
+-- a byte is a number of one byte; m + n bytes are m bytes and n behind them
 pub number-one : (s : Bytes) (at : ℕ) → at < length s → number (take 1 (drop at s)) ≡ getD s at 0
 unfolding number
 number-one s at h = rw (drop-cons s at 0 h) (omega arith)

@@ -12,7 +12,9 @@ pub fn read16(s: &[u8], at: usize) -> u16
     requires { ⌜ at + 2 ≤ length (now s) ⌝ }
     ensures { λ r. ⌜ r ≡ B.number (take 2 (drop at (now (s .entry)))) ⌝ }
 {
-    (s[at] as u16) * 256 + (s[at + 1] as u16)
+    let high = s[at];
+    let low = s[at + 1];
+    (high as u16) * 256 + (low as u16)
 }
 
 // The number in the four bytes of `s` from `at` on: two numbers of two bytes.
@@ -20,7 +22,9 @@ pub fn read32(s: &[u8], at: usize) -> u32
     requires { ⌜ at + 4 ≤ length (now s) ⌝ }
     ensures { λ r. ⌜ r ≡ B.number (take 4 (drop at (now (s .entry)))) ⌝ }
 {
-    (read16(s, at) as u32) * 65536 + (read16(s, at + 2) as u32)
+    let high = read16(s, at);
+    let low = read16(s, at + 2);
+    (high as u32) * 65536 + (low as u32)
 }
 
 // Lays the two bytes of `n` over `dst` from `at` on.

@@ -7,28 +7,34 @@ use Rattle.words.proofs.Number.{number-one, number-part}
 use Rattle.words.proofs.read16.Statement.{statement}
 use Rattle.words.proofs.read16.Tie as tie
 
-shared-slice-read-result : tie.Need-shared-slice-read-result
-shared-slice-read-result c = search needs
+shared-slice-read-high : tie.Need-shared-slice-read-high
+shared-slice-read-high c = search needs
+
+add-low : tie.Need-add-low
+add-low c = search needs
+
+shared-slice-read-low : tie.Need-shared-slice-read-low
+shared-slice-read-low c = search needs
 
 cast-result : tie.Need-cast-result
-cast-result c = omega (arith, c .shared-slice-known .given (c .before .args .at))
+cast-result c =
+    let at = c .before .before .args .at in
+    omega (arith, c .shared-slice-known2 .given at, c .shared-slice-known2 .given (at + 1))
 
 mul-result : tie.Need-mul-result
-mul-result c = omega (arith, c .shared-slice-known .given (c .before .args .at))
-
-add-result : tie.Need-add-result
-add-result c = search needs
-
-shared-slice-read-result-2 : tie.Need-shared-slice-read-result-2
-shared-slice-read-result-2 c = search needs
+mul-result c =
+    let at = c .before .before .args .at in
+    omega (arith, c .shared-slice-known2 .given at, c .shared-slice-known2 .given (at + 1))
 
 cast-result-2 : tie.Need-cast-result-2
-cast-result-2 c = omega (arith, c .shared-slice-known2 .given (c .before .before .args .at + 1))
-
-add-result-2 : tie.Need-add-result-2
-add-result-2 c =
+cast-result-2 c =
     let at = c .before .before .args .at in
-    omega (arith, c .before .shared-slice-known .given at, c .shared-slice-known2 .given (at + 1))
+    omega (arith, c .shared-slice-known2 .given at, c .shared-slice-known2 .given (at + 1))
+
+add-result : tie.Need-add-result
+add-result c =
+    let at = c .before .before .args .at in
+    omega (arith, c .shared-slice-known2 .given at, c .shared-slice-known2 .given (at + 1))
 
 returns : tie.Need-returns
 returns c =
@@ -40,11 +46,11 @@ pub read16-spec : {M : Type 1} → statement M
 read16-spec =
     tie.close
     (tie.spec
-    shared-slice-read-result
+    shared-slice-read-high
+    add-low
+    shared-slice-read-low
     cast-result
     mul-result
-    add-result
-    shared-slice-read-result-2
     cast-result-2
-    add-result-2
+    add-result
     returns)

@@ -9,17 +9,17 @@ use Rattle.words.proofs.read32.Tie as tie
 read16-requires : tie.Need-read16-requires
 read16-requires c κs = search needs
 
-cast-result : tie.Need-cast-result
-cast-result c = search needs
-
-mul-result : tie.Need-mul-result
-mul-result c = search needs
-
 add-read16 : tie.Need-add-read16
 add-read16 c = search needs
 
 read16-requires-2 : tie.Need-read16-requires-2
 read16-requires-2 c κs = search needs
+
+cast-result : tie.Need-cast-result
+cast-result c = search needs
+
+mul-result : tie.Need-mul-result
+mul-result c = search needs
 
 cast-result-2 : tie.Need-cast-result-2
 cast-result-2 c = search needs
@@ -37,10 +37,10 @@ read32-spec =
     tie.close
     (tie.spec
     read16-requires
-    cast-result
-    mul-result
     add-read16
     read16-requires-2
+    cast-result
+    mul-result
     cast-result-2
     add-result
     returns)
