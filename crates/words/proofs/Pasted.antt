@@ -38,6 +38,12 @@ pub pasted-end : (o : Bytes) (a : ℕ) (x : Bytes) → a + length x ≡ length o
 unfolding pasted
 pasted-end o a x h = rw (h, drop-length o, append-nil x)
 
+pub pasted-front : (o : Bytes) (a : ℕ) (x : Bytes) → a ≤ length o → take (a + length x) (pasted o a x) ≡ take a o ++ x
+unfolding pasted
+pasted-front o a x h =
+    let e : length (take a o ++ x) ≡ a + length x = omega (arith, length-append (take a o) x, length-take-le a o h) in
+    rw (← (append-assoc (take a o) x (drop (a + length x) o))) (take-at (take a o ++ x) (drop (a + length x) o) (a + length x) e)
+
 pub pasted-at : (f r x : Bytes) (a : ℕ) → length f ≡ a → pasted (f ++ r) a x ≡ f ++ (x ++ drop (length x) r)
 unfolding pasted
 pasted-at f r x a h = rw (take-at f r a h, ← h, drop-append-add f r (length x))
@@ -50,6 +56,11 @@ pasted-pasted o a x y h =
     ap (λ l. pasted l (a + length x) y) (sym (append-assoc (take a o) x (drop (a + length x) o)))
     ∙ pasted-at (take a o ++ x) (drop (a + length x) o) y (a + length x) e
     ∙ rw (drop-drop (length y) (a + length x) o, k) (simp append-assoc)
+
+-- a buffer keeps its length, and holds what was laid over it
+pub pasted-reach : (o : Bytes) (a : ℕ) (x : Bytes) → a ≤ length o → a + length x ≤ length (pasted o a x)
+unfolding pasted
+pasted-reach o a x h = simp (length-append, length-take) (omega arith)
 
 pub length-pasted : (o : Bytes) (a : ℕ) (x : Bytes) → a + length x ≤ length o → length (pasted o a x) ≡ length o
 unfolding pasted
