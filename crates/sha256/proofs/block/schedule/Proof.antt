@@ -1,0 +1,60 @@
+-- `sha256::block::schedule` meets its contract: its first t words are those of the definition. Assumes nothing.
+use mathlib.Core.Path.{_≡_, refl}
+use Prim.Native.Nat.{_≤_, _-_}
+use native.Mathlib.Omega.{arith}
+use lib.ListN.{length, take, length-set}
+use borrow.Author.Needs.{needs}
+use Rattle.fips.specs.Sha256 as S
+use Rattle.sha256.proofs.Turns.{schedule-turn, schedule-done}
+use Rattle.sha256.proofs.block.schedule.Statement.{statement}
+use Rattle.sha256.proofs.block.schedule.Tie as tie
+
+abbrev Inv-loop : tie.InvT-loop
+Inv-loop b w₀ t₀ w t = (t ≤ 64) × (length w ≡ 64) × (take t w ≡ S.schedule b t)
+
+abbrev μ-loop : tie.MeasureT-loop
+μ-loop b w₀ t₀ w t = 64 - t
+
+loop-holds : tie.Need-loop-holds Inv-loop μ-loop
+unfolding S.schedule
+loop-holds c = (omega arith, refl, refl)
+
+word-requires : tie.Need-word-requires Inv-loop μ-loop
+word-requires c κs = search needs
+
+mul-w : tie.Need-mul-w Inv-loop μ-loop
+mul-w c = search needs
+
+array-write-w : tie.Need-array-write-w Inv-loop μ-loop
+array-write-w c = search needs
+
+add-t : tie.Need-add-t Inv-loop μ-loop
+add-t c = search needs
+
+loop-less : tie.Need-loop-less Inv-loop μ-loop
+loop-less c = search needs
+
+loop-again : tie.Need-loop-again Inv-loop μ-loop
+loop-again c =
+    let l = c .before .before .before .loop in
+    (omega arith, simp length-set (omega arith), schedule-turn _ (l .w) (l .t) _ (omega arith) (l .inv .2) (c .word .ensures))
+
+returns : tie.Need-returns Inv-loop μ-loop
+returns c =
+    let l = c .before .loop in
+    schedule-done _ (l .w) (l .t) (omega arith) (l .inv .1) (l .inv .2)
+
+pub schedule-spec : {M : Type 1} → statement M
+schedule-spec =
+    tie.close
+    (tie.spec
+    Inv-loop
+    μ-loop
+    loop-holds
+    word-requires
+    mul-w
+    array-write-w
+    add-t
+    loop-less
+    loop-again
+    returns)

@@ -1,0 +1,2 @@
+-- What the contracts of the functions inside this crate say.
+pub mod Ending

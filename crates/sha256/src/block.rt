@@ -1,0 +1,130 @@
+// FIPS 180-4, section 6.2.2: the hash value after a block of 64 bytes, and after the whole blocks of
+// a message. A block's message schedule is a local array of 64 words, and every sum is modulo 2^32.
+use crate::words::big0;
+use crate::words::big1;
+use crate::words::ch;
+use crate::words::constant;
+use crate::words::maj;
+use crate::words::small0;
+use crate::words::small1;
+use fips::State;
+use std::num::wrapping_add_u32;
+ghost use mathlib.Core.Path.{_≡_};
+ghost use Prim.Native.Nat.{_+_, _*_, _<_};
+ghost use lib.ListN.{length};
+ghost use Rattle.fips.specs.Sha256 as S;
+
+// A word of four bytes, the first the most significant.
+fn join(a: u8, b: u8, c: u8, d: u8) -> u32
+    ensures { λ r. ⌜ r ≡ ((a * 256 + b) * 256 + c) * 256 + d ⌝ }
+{
+    ((a as u32 * 256 + b as u32) * 256 + c as u32) * 256 + d as u32
+}
+
+// Step 1: a word of the schedule from the four before it that it is made of.
+fn mix(w2: u32, w7: u32, w15: u32, w16: u32) -> u32
+    ensures { λ r. ⌜ r ≡ S.mix w2 w7 w15 w16 ⌝ }
+{
+    let x = wrapping_add_u32(small1(w2), w7);
+    let y = wrapping_add_u32(x, small0(w15));
+    wrapping_add_u32(y, w16)
+}
+
+// Word t of the schedule, from the block and the words before it.
+fn word(b: &[u8], w: &[u32; 64], t: usize) -> u32
+    requires { ⌜ (length (now b) ≡ 64) × (t < 64) ⌝ }
+    ensures { λ r. ⌜ r ≡ S.word (now (b .entry)) (now (w .entry)) t ⌝ }
+{
+    if t < 16 {
+        let i = 4 * t;
+        join(b[i], b[i + 1], b[i + 2], b[i + 3])
+    } else {
+        mix(w[t - 2], w[t - 7], w[t - 15], w[t - 16])
+    }
+}
+
+fn schedule(b: &[u8]) -> [u32; 64]
+    requires { ⌜ length (now b) ≡ 64 ⌝ }
+    ensures { λ r. ⌜ r ≡ S.schedule (now (b .entry)) 64 ⌝ }
+{
+    let mut w = [0u32; 64];
+    for t in 0..64 {
+        w[t] = word(b, &w, t);
+    }
+    w
+}
+
+// Step 3: a round, with T1 and T2 of its text.
+fn t1(s: State, k: u32, w: u32) -> u32
+    ensures { λ r. ⌜ r ≡ S.T1 s k w ⌝ }
+{
+    let x = wrapping_add_u32(s.h, big1(s.e));
+    let y = wrapping_add_u32(x, ch(s.e, s.f, s.g));
+    let z = wrapping_add_u32(y, k);
+    wrapping_add_u32(z, w)
+}
+
+fn t2(s: State) -> u32
+    ensures { λ r. ⌜ r ≡ S.T2 s ⌝ }
+{
+    wrapping_add_u32(big0(s.a), maj(s.a, s.b, s.c))
+}
+
+fn round(s: State, k: u32, w: u32) -> State
+    ensures { λ r. ⌜ r ≡ S.round s k w ⌝ }
+{
+    let x = t1(s, k, w);
+    State {
+        a: wrapping_add_u32(x, t2(s)),
+        b: s.a,
+        c: s.b,
+        d: s.c,
+        e: wrapping_add_u32(s.d, x),
+        f: s.e,
+        g: s.f,
+        h: s.g,
+    }
+}
+
+// Step 4.
+fn add(s: State, r: State) -> State
+    ensures { λ q. ⌜ q ≡ S.add s r ⌝ }
+{
+    State {
+        a: wrapping_add_u32(r.a, s.a),
+        b: wrapping_add_u32(r.b, s.b),
+        c: wrapping_add_u32(r.c, s.c),
+        d: wrapping_add_u32(r.d, s.d),
+        e: wrapping_add_u32(r.e, s.e),
+        f: wrapping_add_u32(r.f, s.f),
+        g: wrapping_add_u32(r.g, s.g),
+        h: wrapping_add_u32(r.h, s.h),
+    }
+}
+
+// The hash value after a block.
+fn compress(s: State, b: &[u8]) -> State
+    requires { ⌜ length (now b) ≡ 64 ⌝ }
+    ensures { λ r. ⌜ r ≡ S.compress s (now (b .entry)) ⌝ }
+{
+    let w = schedule(b);
+    let mut r = s;
+    for t in 0..64 {
+        r = round(r, constant(t), w[t]);
+    }
+    add(s, r)
+}
+
+// The hash value after the whole blocks of `m`. What is left of `m`, less than a block, has no part.
+pub fn blocks(s: State, m: &[u8]) -> State
+    ensures { λ r. ⌜ r ≡ S.hash s (now (m .entry)) ⌝ }
+{
+    let mut r = s;
+    let mut at = 0;
+    while 64 <= m.len() - at {
+        let next = at + 64;
+        r = compress(r, &m[at..next]);
+        at = next;
+    }
+    r
+}

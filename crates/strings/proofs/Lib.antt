@@ -1,0 +1,2 @@
+-- Laws of strings that are laid out part by part.
+pub mod Row

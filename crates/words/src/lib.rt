@@ -1,0 +1,94 @@
+// Numbers in bytes, and copies and compares of bytes: what is done with strings before it is asked what they mean.
+// Document 01: "All stored numbers are big-endian."
+ghost use mathlib.Core.Path.{_≡_};
+ghost use Prim.Native.Nat.{_+_, _≤_};
+ghost use lib.Dec.{eqb};
+ghost use lib.ListN.{length, take, drop};
+ghost use Rattle.paper.specs.Bytes as B;
+ghost use Rattle.paper.specs.Lists.{every};
+
+// The number in the two bytes of `s` from `at` on.
+pub fn read16(s: &[u8], at: usize) -> u16
+    requires { ⌜ at + 2 ≤ length (now s) ⌝ }
+    ensures { λ r. ⌜ r ≡ B.number (take 2 (drop at (now (s .entry)))) ⌝ }
+{
+    let high = s[at];
+    let low = s[at + 1];
+    (high as u16) * 256 + (low as u16)
+}
+
+// The number in the four bytes of `s` from `at` on: two numbers of two bytes.
+pub fn read32(s: &[u8], at: usize) -> u32
+    requires { ⌜ at + 4 ≤ length (now s) ⌝ }
+    ensures { λ r. ⌜ r ≡ B.number (take 4 (drop at (now (s .entry)))) ⌝ }
+{
+    let high = read16(s, at);
+    let low = read16(s, at + 2);
+    (high as u32) * 65536 + (low as u32)
+}
+
+// Lays the two bytes of `n` over `dst` from `at` on.
+pub fn write16(dst: &mut [u8], at: usize, n: u16)
+    requires { ⌜ at + 2 ≤ length (now dst) ⌝ }
+    ensures { λ _. ⌜ now (dst .exit) ≡ B.pasted (now (dst .entry)) at (B.be 2 n) ⌝ }
+{
+    dst[at] = (n / 256) as u8;
+    dst[at + 1] = (n % 256) as u8;
+}
+
+// Lays the four bytes of `n` over `dst` from `at` on: the upper two, and behind them the lower two.
+pub fn write32(dst: &mut [u8], at: usize, n: u32)
+    requires { ⌜ at + 4 ≤ length (now dst) ⌝ }
+    ensures { λ _. ⌜ now (dst .exit) ≡ B.pasted (now (dst .entry)) at (B.be 4 n) ⌝ }
+{
+    write16(dst, at, (n / 65536) as u16);
+    write16(dst, at + 2, (n % 65536) as u16);
+}
+
+// Lays `src` over `dst` from `at` on.
+pub fn put(dst: &mut [u8], at: usize, src: &[u8])
+    requires { ⌜ at + length (now src) ≤ length (now dst) ⌝ }
+    ensures { λ _. ⌜ now (dst .exit) ≡ B.pasted (now (dst .entry)) at (now (src .entry)) ⌝ }
+{
+    for i in 0..src.len() {
+        dst[at + i] = src[i];
+    }
+}
+
+// The 32 bytes of `s` from `at` on: a digest, a label, a commitment or an opening.
+pub fn digest_at(s: &[u8], at: usize) -> [u8; 32]
+    requires { ⌜ at + 32 ≤ length (now s) ⌝ }
+    ensures { λ r. ⌜ r ≡ take 32 (drop at (now (s .entry))) ⌝ }
+{
+    let mut digest = [0u8; 32];
+    let after = at + 32;
+    put(&mut digest, 0, &s[at..after]);
+    digest
+}
+
+// Whether two strings are the same, which strings of different lengths are not.
+pub fn same(a: &[u8], b: &[u8]) -> bool
+    ensures { λ r. ⌜ r ≡ B.same (now (a .entry)) (now (b .entry)) ⌝ }
+{
+    if a.len() != b.len() {
+        return false;
+    }
+    for i in 0..a.len() {
+        if a[i] != b[i] {
+            return false;
+        }
+    }
+    true
+}
+
+// Whether each byte is zero: a filling, a zero commitment, the bits past a prefix.
+pub fn all_zero(s: &[u8]) -> bool
+    ensures { λ r. ⌜ r ≡ every (λ b. eqb b 0) (now (s .entry)) ⌝ }
+{
+    for i in 0..s.len() {
+        if s[i] != 0 {
+            return false;
+        }
+    }
+    true
+}
