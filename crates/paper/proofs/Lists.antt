@@ -78,6 +78,16 @@ module _ {A : Type 0} where
   all-every t [] h = refl
   all-every t (a ∷ l) h = and-both (h .0) (all-every t l (h .1))
 
+  -- one of the list is of the first kind, or all are of the second
+  pub some-or-all : (P Q : A → Type 0) → ((a : A) → P a ⊎ Q a) → (l : List A) → ((a : A) × (a ∈ l) × P a) ⊎ All Q l
+  some-or-all P Q f [] = inr tt
+  some-or-all P Q f (b ∷ l) = by (f b) (some-or-all P Q f l)
+    where
+      by : P b ⊎ Q b → ((a : A) × (a ∈ l) × P a) ⊎ All Q l → ((a : A) × (a ∈ (b ∷ l)) × P a) ⊎ All Q (b ∷ l)
+      by (inl p) t = inl (b, inl refl, p)
+      by (inr q) (inl (a, m, p)) = inl (a, inr m, p)
+      by (inr q) (inr h) = inr (q, h)
+
   -- those that a test keeps: each passed it and was there before, and each that was there and passes it is kept
   pub keep-passes : (t : A → Bool) (l : List A) → All (λ a. t a ≡ true) (keep t l)
   unfolding keep
