@@ -1,7 +1,7 @@
 -- `sha256::be64` meets its contract: each byte is the definition's own expression. Assumes nothing.
 use mathlib.Core.Path.{refl}
 use Rattle.fips.specs.Sha256 as S
-use Rattle.sha256.proofs.Bytes.{low}
+use Rattle.sha256.proofs.Numbers.{low}
 use Rattle.sha256.proofs.be64.Statement.{statement}
 use Rattle.sha256.proofs.be64.Tie as tie
 

@@ -1,7 +1,7 @@
 -- `sha256::digest` meets its contract: each byte is the definition's own expression. Assumes nothing.
 use mathlib.Core.Path.{refl}
 use Rattle.fips.specs.Sha256 as S
-use Rattle.sha256.proofs.Bytes.{low}
+use Rattle.sha256.proofs.Numbers.{low}
 use Rattle.sha256.proofs.digest.Statement.{statement}
 use Rattle.sha256.proofs.digest.Tie as tie
 
