@@ -11,6 +11,12 @@ pub mod PathWalk
 pub mod TreeWalk
 pub mod Order
 pub mod Step
+pub mod Chain
+pub mod Collide
+pub mod Sizes
+pub mod Shown
+pub mod Agree
+pub mod Accepted
 pub mod Rows
 pub mod Marker
 pub mod Verdicts

@@ -1,12 +1,13 @@
 -- Laws of lists: membership, "all", tests, and strings put one behind the other. Assumes nothing.
 use mathlib.Core.Path.{_≡_, refl, sym, ap, _∙_, subst}
-use mathlib.Core.Logic.{_⊎_, inl, inr, ⊎-elim}
+use mathlib.Core.Logic.{_⊎_, inl, inr, ⊎-elim, by-cases}
 use mathlib.Core.Bool.{Bool, true, false, cond, _&&_, _||_}
 use mathlib.Core.List.{List, [], _∷_, _++_, map, head-eq-of-cons-eq, tail-eq-of-cons-eq}
 use Prim.Native.Nat.{ℕ, zero, suc, _+_, _-_, _≤_, _<_}
 use native.Mathlib.Nat.{sub-zero}
 use native.Mathlib.Omega.{arith}
-use lib.ListN.{length, take, drop, length-append}
+use native.Mathlib.Decide.{decLt}
+use lib.ListN.{length, take, drop, getD, length-append}
 use lib.Seq.{take-nil}
 use Rattle.paper.specs.Lists.{_∈_, All, every, some, keep, upFrom}
 
@@ -66,6 +67,19 @@ module _ {A : Type 0} where
   drop-take (suc k) zero l = let e : 0 - suc k ≡ 0 = omega arith in rw e
   drop-take (suc k) (suc n) [] = sym (take-nil (suc n - suc k))
   drop-take (suc k) (suc n) (a ∷ l) = let e : suc n - suc k ≡ n - k = omega arith in rw e (drop-take k n l)
+
+  pub all-getD : (P : A → Type 0) (l : List A) (d : A) → All P l → (i : ℕ) → i < length l → P (getD l i d)
+  all-getD P [] d h i k = absurd (omega arith)
+  all-getD P (a ∷ l) d h zero k = h .0
+  all-getD P (a ∷ l) d h (suc i) k = all-getD P l d (h .1) i (omega arith)
+
+  pub in-left : (a : A) (l m : List A) → a ∈ l → a ∈ (l ++ m)
+  in-left a (b ∷ l) m (inl e) = inl e
+  in-left a (b ∷ l) m (inr k) = inr (in-left a l m k)
+
+  pub in-right : (a : A) (l m : List A) → a ∈ m → a ∈ (l ++ m)
+  in-right a [] m k = k
+  in-right a (b ∷ l) m k = inr (in-right a l m k)
 
   -- a test of each is a test of all
   pub every-all : (t : A → Bool) (l : List A) → every t l ≡ true → All (λ a. t a ≡ true) l
@@ -132,3 +146,23 @@ pub upFrom-length : (a k : ℕ) → length (upFrom a k) ≡ k
 unfolding upFrom
 upFrom-length a zero = refl
 upFrom-length a (suc k) = ap suc (upFrom-length (suc a) k)
+
+pub in-map : {A B : Type 0} (f : A → B) (l : List A) (a : A) → a ∈ l → f a ∈ map f l
+in-map f (b ∷ l) a (inl e) = inl (ap f e)
+in-map f (b ∷ l) a (inr m) = inr (in-map f l a m)
+
+pub all-map : {A B : Type 0} (P : B → Type 0) (f : A → B) (l : List A) → All P (map f l) → All (λ a. P (f a)) l
+all-map P f [] h = tt
+all-map P f (a ∷ l) h = (h .0, all-map P f l (h .1))
+
+pub in-upFrom : (a k i : ℕ) → a ≤ i → i < a + k → i ∈ upFrom a k
+unfolding upFrom
+in-upFrom a zero i h l = absurd (omega arith)
+in-upFrom a (suc k) i h l = by-cases (decLt a i) (λ m. inr (in-upFrom (suc a) k i m (omega arith))) (λ m. inl (omega arith))
+
+-- f of the numbers from a on: the j-th is f (a + j)
+pub getD-upFrom : {B : Type 0} (f : ℕ → B) (d : B) (a k j : ℕ) → j < k → getD (map f (upFrom a k)) j d ≡ f (a + j)
+unfolding upFrom
+getD-upFrom f d a zero j h = absurd (omega arith)
+getD-upFrom f d a (suc k) zero h = let e : a ≡ a + 0 = omega arith in ap f e
+getD-upFrom f d a (suc k) (suc j) h = let e : suc a + j ≡ a + suc j = omega arith in getD-upFrom f d (suc a) k j (omega arith) ∙ ap f e

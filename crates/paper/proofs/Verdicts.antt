@@ -1,14 +1,20 @@
 -- What a verdict over tests in order comes to. Assumes nothing.
-use mathlib.Core.Path.{_≡_, refl, sym, ap, _∙_}
-use mathlib.Core.Logic.{_⊎_, inl, inr}
+use mathlib.Core.Path.{_≡_, refl, sym, ap, _∙_, subst}
+use mathlib.Core.Logic.{_⊎_, inl, inr, ⊎-elim}
 use mathlib.Core.Bool.{Bool, true, false, cond}
 use mathlib.Core.List.{List, [], _∷_, _++_}
-use Prim.Native.Nat.{ℕ}
+use Prim.Native.Nat.{ℕ, _<_}
+use native.Mathlib.Omega.{arith}
 use Rattle.paper.specs.Lists.{_∈_, All}
 use Rattle.paper.specs.Verdict.{Test, verdict}
+use Rattle.paper.proofs.Lists.{all-in, in-right}
 
 abbrev pub Hold : List Test → Type 0
 Hold = All (λ t. t .holds ≡ true)
+
+-- every test has a number that says no
+abbrev pub Numbered : List Test → Type 0
+Numbered = All (λ t. 0 < t .number)
 
 -- the first of the tests that fails, behind those that hold
 pub record FirstFails (ts : List Test) (n : ℕ) : Type 0 where
@@ -60,3 +66,13 @@ module _ {A : Type 0} (refuse : ℕ → A) (answer : A) where
       go : (ps : List Test) → Hold ps → verdict refuse answer (ps ++ (f .failed ∷ f .rest)) ≡ refuse n
       go [] h = rw (f .fails) (ap refuse (f .number))
       go (p ∷ ps) h = rw (h .0) (go ps (h .1))
+
+  -- where the answer's number is 0 all tests hold
+  pub accepted : (number : A → ℕ) → ((n : ℕ) → number (refuse n) ≡ n) → (ts : List Test) → Numbered ts → number (verdict refuse answer ts) ≡ 0
+      → Hold ts × (verdict refuse answer ts ≡ answer)
+  accepted number back ts h e = ⊎-elim (λ w. w) (λ (n, f, q). absurd (none n f q)) (verdict-cases ts)
+    where
+      none : (n : ℕ) → FirstFails ts n → verdict refuse answer ts ≡ refuse n → ⊥
+      none n f q =
+          let z : n ≡ 0 = sym (back n) ∙ ap number (sym q) ∙ e in
+          omega (arith, f .number, all-in _ ts h (f .failed) (subst (λ l. f .failed ∈ l) (f .split) (in-right (f .failed) (f .passed) _ (inl refl))))

@@ -19,3 +19,4 @@ pub mod Publish
 pub mod Write
 pub mod Answer
 pub mod Program
+pub mod Arrow
