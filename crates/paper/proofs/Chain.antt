@@ -50,6 +50,16 @@ pub data Chain (F : Hashed) : Bytes → Bytes → Type 0 where
   here : {d : Bytes} → Chain F d d
   more : {d d′ d″ : Bytes} → Stepped F d d′ → Chain F d′ d″ → Chain F d d″
 
+abbrev pub stepsIn : {F : Hashed} {d d′ : Bytes} → Chain F d d′ → ℕ
+stepsIn here = 0
+stepsIn (more a c) = suc (stepsIn c)
+
+-- each step adds one to the epoch
+pub chain-epochs : (F : Hashed) {d d′ : Bytes} (o p : Head) (c : Chain F d d′) → Opens F d o → Opens F d′ p → o .epoch + stepsIn c ≡ p .epoch
+chain-epochs F {d} o p here x y = omega (arith, ap (λ h. h .epoch) (opens-same F d o p x y))
+chain-epochs F {d} o p (more a c) x y =
+    omega (arith, chain-epochs F (a .after) p c (a .opens′) y, a .next, ap (λ h. h .epoch) (opens-same F d o (a .before) x (a .opens)))
+
 -- from epoch t to epoch T a walk is kept, or comes to a leaf of an epoch between where it was absent
 pub data Later (t T : ℕ) : Found → Found → Type 0 where
   kept : {r : Found} → Later t T r r

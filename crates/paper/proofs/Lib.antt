@@ -17,6 +17,9 @@ pub mod Sizes
 pub mod Shown
 pub mod Agree
 pub mod Accepted
+pub mod KeyPart
+pub mod Facts
+pub mod Arrow
 pub mod Rows
 pub mod Marker
 pub mod Verdicts

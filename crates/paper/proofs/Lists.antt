@@ -81,6 +81,9 @@ module _ {A : Type 0} where
   in-right a [] m k = k
   in-right a (b ∷ l) m k = inr (in-right a l m k)
 
+  pub lt-append : (l m : List A) (i : ℕ) → i < length l → i < length (l ++ m)
+  lt-append l m i h = omega (arith, length-append l m)
+
   -- a test of each is a test of all
   pub every-all : (t : A → Bool) (l : List A) → every t l ≡ true → All (λ a. t a ≡ true) l
   unfolding every
@@ -130,6 +133,19 @@ module _ {A : Type 0} where
       by true k = inr k
       by false k = k
 
+  pub keep-append : (t : A → Bool) (l m : List A) → keep t (l ++ m) ≡ keep t l ++ keep t m
+  unfolding keep
+  keep-append t [] m = refl
+  keep-append t (a ∷ l) m = by (t a) (keep-append t l m)
+    where
+      by : (b : Bool) → keep t (l ++ m) ≡ keep t l ++ keep t m → cond b (a ∷ keep t (l ++ m)) (keep t (l ++ m)) ≡ cond b (a ∷ keep t l) (keep t l) ++ keep t m
+      by true e = ap (λ r. a ∷ r) e
+      by false e = e
+
+  pub keep-one : (t : A → Bool) (a : A) → keep t (a ∷ []) ≡ cond (t a) (a ∷ []) []
+  unfolding keep
+  keep-one t a = refl
+
   pub keep-in : (t : A → Bool) (l : List A) (a : A) → a ∈ keep t l → a ∈ l
   keep-in t l a m = all-in (λ b. b ∈ l) (keep t l) (keep-all (λ b. b ∈ l) t l (in-all _ l (λ b k. k))) a m
 
@@ -166,3 +182,8 @@ unfolding upFrom
 getD-upFrom f d a zero j h = absurd (omega arith)
 getD-upFrom f d a (suc k) zero h = let e : a ≡ a + 0 = omega arith in ap f e
 getD-upFrom f d a (suc k) (suc j) h = let e : suc a + j ≡ a + suc j = omega arith in getD-upFrom f d (suc a) k j (omega arith) ∙ ap f e
+
+pub upFrom-snoc : (a k : ℕ) → upFrom a (suc k) ≡ upFrom a k ++ ((a + k) ∷ [])
+unfolding upFrom
+upFrom-snoc a zero = let e : a ≡ a + 0 = omega arith in ap (λ i. i ∷ []) e
+upFrom-snoc a (suc k) = let e : suc a + k ≡ a + suc k = omega arith in ap (λ l. a ∷ l) (upFrom-snoc (suc a) k ∙ ap (λ i. upFrom (suc a) k ++ (i ∷ [])) e)

@@ -10,7 +10,7 @@ use Rattle.paper.specs.Lists.{_∈_, All}
 use Rattle.paper.specs.Bytes.{Bytes, same}
 use Rattle.paper.specs.Bits.{Bits, bitsOf}
 use Rattle.paper.specs.Strings.{Kind, Node, nodeString, Head}
-use Rattle.paper.specs.Labelling.{Labelling}
+use Rattle.paper.specs.Labelling.{Labelling, Sized}
 use Rattle.paper.specs.Tree.{digest}
 use Rattle.paper.specs.Path as P
 use Rattle.paper.specs.Path.{Step, End, this, other, off, none, Path, pathNodes, pathRoot, lastLength, presentWith, epochOf}
@@ -27,10 +27,6 @@ use Rattle.paper.proofs.PathWalk.{endShows, EndShows, absent-shows, pat
 use Rattle.paper.proofs.Chain.{Hashed, rootIn}
 use Rattle.paper.proofs.Collide.{OneToOne, hashedIn}
 use Rattle.paper.proofs.Sizes.{path-sized}
-
--- all that a labelling has to obey: labels have 32 bytes
-pub record Sized (lab : Labelling) : Type 0 where
-  pub size : (kind : Kind) (n : ℕ) (name : Bytes) → length (lab .label kind n name) ≡ 32
 
 -- strings of the list
 abbrev pub Within : List Bytes → List Bytes → Type 0

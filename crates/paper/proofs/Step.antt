@@ -45,21 +45,21 @@ order-rising (x ∷ y ∷ R) e =
     let h : Rising (v ∷ news R) = rw (← ev) (order-rising (y ∷ R) (and-right (before? (recordKey x) (recordKey y)) _ e)) in
     rw (eu, ev) (rw (ku, kv) b, h)
 
-olds-all : (P : Node → Type 0) (R : List AuditRecord) → All P (news R) → All P (olds R)
+pub olds-all : (P : Node → Type 0) (R : List AuditRecord) → All P (news R) → All P (olds R)
 unfolding olds news
 olds-all P [] h = tt
 olds-all P (unchanged m c e ∷ R) h = (h .0, olds-all P R (h .1))
 olds-all P (opened p l r ∷ R) h = (h .0, olds-all P R (h .1))
 olds-all P (fresh m c e ∷ R) h = olds-all P R (h .1)
 
-olds-free : (R : List AuditRecord) → Free (news R) → Free (olds R)
+pub olds-free : (R : List AuditRecord) → Free (news R) → Free (olds R)
 unfolding olds news
 olds-free [] h = tt
 olds-free (unchanged m c e ∷ R) h = (olds-all _ R (h .0), olds-free R (h .1))
 olds-free (opened p l r ∷ R) h = (olds-all _ R (h .0), olds-free R (h .1))
 olds-free (fresh m c e ∷ R) h = olds-free R (h .1)
 
-news-size : (new : ℕ) (R : List AuditRecord) → All (RecordOk new) R → All (λ y. length (key y) ≤ 256) (news R) × All (λ y. 0 < length (key y)) (news R)
+pub news-size : (new : ℕ) (R : List AuditRecord) → All (RecordOk new) R → All (λ y. length (key y) ≤ 256) (news R) × All (λ y. 0 < length (key y)) (news R)
 unfolding news
 news-size new [] h = (tt, tt)
 news-size new (unchanged m c e ∷ R) h = let (a, b) = news-size new R (h .1) in ((omega arith, a), (omega arith, b))

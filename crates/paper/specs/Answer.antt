@@ -19,6 +19,17 @@ lookupValues (L.Found version epoch digests) = version ∷ epoch ∷ digests ∷
 lookupValues (L.NotRegistered epoch digests) = 0 ∷ epoch ∷ digests ∷ []
 lookupValues (L.Refused number) = []
 
+-- the version and the epoch that a lookup gives; 0 where it gives none
+abbrev pub answeredVersion : LookupAnswer → ℕ
+answeredVersion (L.Found version epoch digests) = version
+answeredVersion (L.NotRegistered epoch digests) = 0
+answeredVersion (L.Refused number) = 0
+
+abbrev pub answeredEpoch : LookupAnswer → ℕ
+answeredEpoch (L.Found version epoch digests) = epoch
+answeredEpoch (L.NotRegistered epoch digests) = epoch
+answeredEpoch (L.Refused number) = 0
+
 -- "a history its n"
 abbrev pub historyNumber : HistoryAnswer → ℕ
 historyNumber (H.Accepted versions epoch digests) = 0
@@ -27,6 +38,10 @@ historyNumber (H.Refused number) = number
 abbrev pub historyValues : HistoryAnswer → List ℕ
 historyValues (H.Accepted versions epoch digests) = versions ∷ epoch ∷ digests ∷ []
 historyValues (H.Refused number) = []
+
+abbrev pub historyEpoch : HistoryAnswer → ℕ
+historyEpoch (H.Accepted versions epoch digests) = epoch
+historyEpoch (H.Refused number) = 0
 
 -- "an audit gives both epochs and its digests"
 abbrev pub auditNumber : AuditAnswer → ℕ

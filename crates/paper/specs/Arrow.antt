@@ -2,19 +2,21 @@
 -- epoch by it, a run of accepted audit steps, the strings that the checks hashed, and a collision among them.
 use mathlib.Core.Path.{_≡_}
 use mathlib.Core.List.{List, [], _∷_, _++_, map}
-use Prim.Native.Nat.{ℕ, zero, suc, _-_}
+use Prim.Native.Nat.{ℕ, zero, suc, _+_, _-_}
 use lib.Dec.{leb}
-use lib.ListN.{getD}
+use lib.ListN.{length, getD}
 use Rattle.fips.specs.Sha256.{sha256}
 use Rattle.paper.specs.Lists.{_∈_, keep, upFrom}
 use Rattle.paper.specs.Bytes.{Bytes}
 use Rattle.paper.specs.Labelling.{Labelling}
 use Rattle.paper.specs.Layout.{Read, got, bad, parse}
 use Rattle.paper.specs.Shows.{Item, Proof, epochAt}
-use Rattle.paper.specs.Lookup.{lookupField, lookupStrings}
+use Rattle.paper.specs.Lookup.{lookupField, lookupStrings, acceptedKey}
 use Rattle.paper.specs.History.{historyField, historyStrings}
 use Rattle.paper.specs.Audit.{Audit, auditField, auditStrings, checkAudit}
-use Rattle.paper.specs.Answer.{auditNumber}
+use Rattle.paper.specs.Answer.{auditNumber, answeredVersion, answeredEpoch, historyEpoch}
+use Rattle.paper.specs.declared.LookupAnswer.{LookupAnswer}
+use Rattle.paper.specs.declared.HistoryAnswer.{HistoryAnswer}
 
 -- a version as a history tells it; version 0 stands for "not registered"
 pub record Told : Type 0 where
@@ -89,3 +91,10 @@ pub record Collision (U : List Bytes) : Type 0 where
   pub in-two : two ∈ U
   pub differ : ¬ (one ≡ two)
   pub same : sha256 one ≡ sha256 two
+
+-- what demand 3 says of the lookup: it gave the version and key that the history says was current at its epoch; and the history's
+-- epoch is the lookup's and one for each step
+pub record Agrees (lookup : LookupAnswer) (lookupBytes : Bytes) (steps : List AuditStep) (history : HistoryAnswer) (historyBytes : Bytes) : Type 0 where
+  pub version : answeredVersion lookup ≡ currentAt (answeredEpoch lookup) (told historyBytes) .version
+  pub key : acceptedKey lookup lookupBytes ≡ currentAt (answeredEpoch lookup) (told historyBytes) .key
+  pub epochs : answeredEpoch lookup + length steps ≡ historyEpoch history

@@ -1,8 +1,11 @@
 -- How names become labels. Everything above takes the labelling as a parameter.
+use mathlib.Core.Path.{_≡_}
 use mathlib.Core.Bool.{Bool}
 use mathlib.Core.List.{List, [], _∷_}
 use Prim.Native.Nat.{ℕ}
+use lib.ListN.{length}
 use Rattle.fips.specs.Sha256.{sha256}
+use Rattle.paper.specs.Numbers.{wide}
 use Rattle.paper.specs.Bytes.{Bytes, same}
 use Rattle.paper.specs.Strings.{Kind, kindByte, labelString}
 
@@ -25,3 +28,7 @@ plain = record {
 -- whether two names are one
 unfoldable pub sameName : Labelling → Bytes → Bytes → Bool
 sameName lab a b = same (lab .person a) (lab .person b)
+
+-- all that a labelling has to obey: labels have 32 bytes
+pub record Sized (lab : Labelling) : Type 0 where
+  pub size : (kind : Kind) (n : ℕ) (name : Bytes) → length (lab .label kind n name) ≡ wide
