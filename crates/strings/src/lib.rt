@@ -77,7 +77,7 @@ pub fn label(kind: u8, number: u16, name: &[u8]) -> [u8; 32]
     ensures { λ r. ⌜ r ≡ F.sha256 (S.labelString kind number (now (name .entry))) ⌝ }
 {
     let mut s = [0x04u8; 68];
-    s[1] = kind;
+    put(&mut s, 1, &[kind]);
     write16(&mut s, 2, number);
     put(&mut s, 4, name);
     let n = 4 + name.len();
