@@ -14,38 +14,8 @@ use Rattle.strings.proofs.Row.{Parts, row-front}
 use Rattle.strings.proofs.label.Statement.{statement}
 use Rattle.strings.proofs.label.Tie as tie
 
-slice-aggregate-put : tie.Need-slice-aggregate-put
-slice-aggregate-put c = search needs
-
-slice-aggregate-put-2 : tie.Need-slice-aggregate-put-2
-slice-aggregate-put-2 c = search needs
-
-put-requires : tie.Need-put-requires
-put-requires c κs = search needs
-
-slice-aggregate-write16 : tie.Need-slice-aggregate-write16
-slice-aggregate-write16 c = search needs
-
-write16-requires : tie.Need-write16-requires
-write16-requires c κs = search needs
-
-slice-aggregate-put-3 : tie.Need-slice-aggregate-put-3
-slice-aggregate-put-3 c = search needs
-
-put-requires-2 : tie.Need-put-requires-2
-put-requires-2 c κs = search needs
-
-add-n : tie.Need-add-n
-add-n c = search needs
-
-array-share-prefix-s : tie.Need-array-share-prefix-s
-array-share-prefix-s c = search needs
-
 slice-aggregate-sha256 : tie.Need-slice-aggregate-sha256
 slice-aggregate-sha256 c = sym (length-take-le _ _ (search needs))
-
-sha256-requires : tie.Need-sha256-requires
-sha256-requires c κs = search needs
 
 returns : tie.Need-returns
 unfolding labelString
@@ -62,15 +32,15 @@ pub label-spec : {M : Type 1} → statement M
 label-spec =
     tie.close
     (tie.spec
-    slice-aggregate-put
-    slice-aggregate-put-2
-    put-requires
-    slice-aggregate-write16
-    write16-requires
-    slice-aggregate-put-3
-    put-requires-2
-    add-n
-    array-share-prefix-s
+    (λ c. search needs)
+    (λ c. search needs)
+    (λ c κs. search needs)
+    (λ c. search needs)
+    (λ c κs. search needs)
+    (λ c. search needs)
+    (λ c κs. search needs)
+    (λ c. search needs)
+    (λ c. search needs)
     slice-aggregate-sha256
-    sha256-requires
+    (λ c κs. search needs)
     returns)
