@@ -14,9 +14,9 @@ def show(word, value):
 
 
 def digest(size, *parts):
-    """The digest of a string, which has the size that document 01 gives it, where it gives one."""
+    """The digest of a string of the size that document 01 gives it."""
     string = b"".join(parts)
-    assert size is None or len(string) == size
+    assert len(string) == size
     return hashlib.sha256(string).digest()
 
 

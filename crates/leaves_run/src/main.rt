@@ -1,5 +1,6 @@
-// Sample strings of each kind that document 01 hashes, and bytes that were read, written and compared, a line each, to
-// hold against a second reading of the document. The other's lines are the file stdout; tests/leaves_stdout.py makes it.
+// Digests of sample strings of each kind that document 01 hashes, and bytes that were read, written
+// and compared, a line each, to hold against a second reading of the document. The other's lines
+// are the file stdout; tests/leaves_stdout.py makes it.
 use libc::STDOUT_FILENO;
 ghost use Prim.Native.Nat.{_≤_};
 
@@ -29,7 +30,8 @@ fn sample(part: u8, n: u8) -> [u8; 32] {
     bytes
 }
 
-// What holds a number of 32 bits: a leaf, a head, and numbers written and read back, also from other places.
+// What holds a number of 32 bits: a leaf, a head, and bytes that it is written to, from which
+// numbers are read, at its own place and at others.
 fn epoch(n: u8, e: u32) {
     show(b"leaf ", &strings::leaf(&sample(1, n), &sample(2, n), e));
     show(

@@ -24,14 +24,14 @@ returns : tie.Need-returns Inv-loop μ-loop
 returns c =
     let s = c .before .before .before .before .args .s .now in
     let i = c .before .before .before .loop .i in
-    sym (c .before .before .before .loop .inv .2 ∙ every-fail (λ b. eqb b 0) s i (omega arith) (ne-eqb (getD s i 0) 0 (c .if1 .taken)))
+    sym (c .before .before .before .loop .inv .2 ∙ every-fail (λ b. eqb b 0) s i (omega arith) (ne-eqb (getD s i 0) 0 (λ e. omega arith)))
 
 loop-again : tie.Need-loop-again Inv-loop μ-loop
 loop-again c =
     let s = c .before .before .before .before .args .s .now in
     let i = c .before .before .before .loop .i in
     let inv = c .before .before .before .loop .inv in
-    (search needs, inv .1, inv .2 ∙ every-pass (λ b. eqb b 0) s i (omega arith) (eq-eqb (getD s i 0) 0 (c .if1 .left)))
+    (search needs, inv .1, inv .2 ∙ every-pass (λ b. eqb b 0) s i (omega arith) (eq-eqb (getD s i 0) 0 (omega arith)))
 
 returns-2 : tie.Need-returns-2 Inv-loop μ-loop
 returns-2 c = sym (c .before .loop .inv .2 ∙ every-none (λ b. eqb b 0) (c .before .before .args .s .now) (c .before .loop .i) (omega arith))

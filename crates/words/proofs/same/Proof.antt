@@ -18,10 +18,10 @@ abbrev μ-loop : tie.MeasureT-loop
 μ-loop a b i₀ i-end i = length a - i
 
 returns : tie.Need-returns Inv-loop μ-loop
-returns c = sym (not-same (c .before .args .a .now) (c .before .args .b .now) (λ e. c .if1 .taken (ap length e)))
+returns c = sym (not-same (c .before .args .a .now) (c .before .args .b .now) (λ e. omega (arith, ap length e)))
 
 loop-holds : tie.Need-loop-holds Inv-loop μ-loop
-loop-holds c = (search needs, refl, c .if1 .left, below-none _)
+loop-holds c = (search needs, refl, search needs, below-none _)
 
 returns-2 : tie.Need-returns-2 Inv-loop μ-loop
 returns-2 c =
