@@ -13,6 +13,8 @@ EXAMPLES = [
     (b"abcdbcdecdefdefgefghfghighijhijkijkljklmklmnlmnomnopnopq", "248d6a61d20638b8"),
     (b"abcdefghbcdefghicdefghijdefghijkefghijklfghijklmghijklmn"
      b"hijklmnoijklmnopjklmnopqklmnopqrlmnopqrsmnopqrstnopqrstu", "cf5b16a778af8380"),
+    (bytes.fromhex("bd"), "68325720aabd7c82"),
+    (bytes.fromhex("c98c8e55"), "7abc22c0ae5af26c"),
     (bytes.fromhex("d3"), "28969cdfa74a12c8"),
     (bytes.fromhex("11af"), "5ca7133fa7353260"),
     (bytes.fromhex("b4190e"), "dff2e73091f6c05e"),
@@ -21,8 +23,6 @@ EXAMPLES = [
     (bytes.fromhex("e1dc724d5621"), "eca0a060b4896362"),
     (bytes.fromhex("06e076f5a442d5"), "3fd877e27450e6bb"),
     (bytes.fromhex("5738c929c4f4ccb6"), "963bb88f27f51277"),
-    (bytes.fromhex("bd"), "68325720aabd7c82"),
-    (bytes.fromhex("c98c8e55"), "7abc22c0ae5af26c"),
     (bytes(55), "02779466cdec1638"),
     (bytes(56), "d4817aa5497628e7"),
     (bytes(57), "65a16cb7861335d5"),

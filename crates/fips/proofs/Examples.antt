@@ -1,7 +1,6 @@
 -- FIPS 180-4's worked examples of SHA-256, by computation. Assumes nothing.
 use mathlib.Core.Path.{_≡_, refl}
-use mathlib.Core.List.{List, [], _∷_}
-use Prim.Native.Nat.{ℕ}
+use mathlib.Core.List.{[], _∷_}
 use Rattle.fips.specs.Sha256.{mix, schedule, round, rounds, compress, be64, zeros, pad, parse, hash, digest, sha256}
 
 -- "abc", one block

@@ -1,3 +1,4 @@
--- The laws that the proofs of this crate share, on plain lists.
+-- The laws that the proofs of this crate share, on plain numbers and lists.
+pub mod Numbers
 pub mod Turns
 pub mod Padding

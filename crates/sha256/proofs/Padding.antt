@@ -1,13 +1,13 @@
 -- The padding as the code makes it, on plain lists. Assumes nothing.
-use mathlib.Core.Path.{_≡_, refl, sym, ap, ap₂, _∙_}
-use mathlib.Core.List.{List, [], _∷_, _++_, append-assoc}
+use mathlib.Core.Path.{_≡_, refl, sym, ap, _∙_}
+use mathlib.Core.List.{List, _∷_, _++_, append-assoc}
 use Prim.Native.Nat.{ℕ, zero, suc, _+_, _-_, _*_, _/_, _%_, _^_, _≤_, _<_}
 use native.Mathlib.Nat.{add-suc}
 use native.Mathlib.Numerals.{add-one}
 use native.Mathlib.Omega.{arith}
-use lib.ListN.{length, getD, take, drop, set, replicate, length-append, length-drop, length-set, length-replicate, replicate-append-replicate, drop-of-length-le}
+use lib.ListN.{length, getD, take, drop, set, replicate, length-append, length-drop, length-replicate, replicate-append-replicate, drop-of-length-le}
 use lib.Pow.{field, mod-pow-add}
-use lib.Seq.{sets, sets-eq, length-sets, set-append-seam, take-all, take-at, drop-at, drop-cons, drop-drop, take-append-le, drop-append-le}
+use lib.Seq.{sets, sets-eq, set-append-seam, take-all, take-at, drop-at, drop-cons, drop-drop, take-append-le, drop-append-le}
 use Rattle.fips.specs.declared.State.{State}
 use Rattle.fips.specs.Sha256.{compress, hash, H0, zeros, be64, pad, digest, sha256}
 use Rattle.sha256.specs.Ending.{ending}
@@ -16,7 +16,8 @@ use Rattle.sha256.proofs.Turns.{hash-step, hash-none}
 -- ---- a run of stores, one by one
 
 module _ (d x bytes : List ℕ) (at i : ℕ) (left : sets d (at + i) (drop i bytes) ≡ x) where
-  pub put-turn : i < length bytes → sets (set d (at + i) (getD bytes i 0)) (at + (i + 1)) (drop (i + 1) bytes) ≡ x
+  pub put-turn : i < length bytes
+      → sets (set d (at + i) (getD bytes i 0)) (at + (i + 1)) (drop (i + 1) bytes) ≡ x
   put-turn h = rw (add-one, add-suc) (rw (drop-cons bytes i 0 h) at left)
 
   pub put-done : length bytes ≤ i → d ≡ x
@@ -32,11 +33,8 @@ unfolding be64
 length-be64 n = refl
 
 -- the bytes m, the mark and the length n, as b, stored in k zeros so that the length ends at e
-module _ (m : List ℕ) (n k e : ℕ) (d₁ d₂ b : List ℕ) (short : length m < 64) (room : k ≡ 128) (end : e ≡ (length m + 8) / 64 * 64 + 64)
-    (bytes : b ≡ be64 n) (first : d₁ ≡ sets (blank k) 0 m) (second : d₂ ≡ sets (set d₁ (length m) 0x80) (e - 8) b) where
-  pub fits : e ≤ length d₂
-  fits = rw (second, length-sets, length-set, first, length-sets, length-replicate) (omega arith)
-
+module _ (m : List ℕ) (n k e : ℕ) (d₁ d₂ b : List ℕ) (short : length m < 64) (size : k ≡ 128) (end : e ≡ (length m + 8) / 64 * 64 + 64)
+    (first : d₁ ≡ sets (blank k) 0 m) (bytes : b ≡ be64 n) (second : d₂ ≡ sets (set d₁ (length m) 0x80) (e - 8) b) where
   -- the bytes, the mark and the zeros, and what the length leaves behind it
   abbrev front : List ℕ
   front = m ++ (0x80 ∷ blank (zeros (length m)))
@@ -49,7 +47,8 @@ module _ (m : List ℕ) (n k e : ℕ) (d₁ d₂ b : List ℕ) (short : length m
   marked =
       let z : ℕ = zeros (length m) in
       let c : k ≡ length m + suc (z + (136 - e)) = omega arith in
-      let split : blank k ≡ blank (length m) ++ (0 ∷ (blank z ++ after)) = rw (c, ← replicate-append-replicate, ← replicate-append-replicate) in
+      let split : blank k ≡ blank (length m) ++ (0 ∷ (blank z ++ after)) =
+      rw (c, ← replicate-append-replicate, ← replicate-append-replicate) in
       let room : 0 + length m ≤ length (blank k) = simp length-replicate (omega arith) in
       let l : length (blank (length m)) ≡ 0 + length m = simp length-replicate (omega arith) in
       rw (first, sets-eq m (blank k) 0 room, split, drop-at (blank (length m)) (0 ∷ (blank z ++ after)) (0 + length m) l)
@@ -64,7 +63,9 @@ module _ (m : List ℕ) (n k e : ℕ) (d₁ d₂ b : List ℕ) (short : length m
       let room : e - 8 + length (be64 n) ≤ length (front ++ after) = simp (length-append, length-replicate) (omega arith) in
       let le : length (front ++ be64 n) ≡ e = simp (length-append, length-replicate) (omega arith) in
       rw (q, i, second, bytes, marked, sets-eq (be64 n) (front ++ after) (e - 8) room, take-at front after (e - 8) lf)
-      (ap (hash s) (take-at (front ++ be64 n) (drop (e - 8 + length (be64 n)) (front ++ after)) e le ∙ append-assoc m (0x80 ∷ blank (zeros (length m))) (be64 n)))
+      (ap (hash s)
+      (take-at (front ++ be64 n) (drop (e - 8 + length (be64 n)) (front ++ after)) e le
+      ∙ append-assoc m (0x80 ∷ blank (zeros (length m))) (be64 n)))
 
 -- ---- the length in bits
 
@@ -94,14 +95,16 @@ hash-append (suc n) s q r e =
     let g : 64 ≤ length (q ++ r) = simp length-append (omega arith) in
     let f : length (drop 64 q) / 64 ≡ n = simp length-drop (omega arith) in
     let k : suc n * 64 ≡ 64 + n * 64 = omega arith in
-    rw (hash-step s (q ++ r) g, hash-step s q l, take-append-le 64 q r l, drop-append-le 64 q r l, k, ← drop-drop) (hash-append n (compress s (take 64 q)) (drop 64 q) r f)
+    rw (hash-step s (q ++ r) g, hash-step s q l, take-append-le 64 q r l, drop-append-le 64 q r l, k, ← drop-drop)
+    (hash-append n (compress s (take 64 q)) (drop 64 q) r f)
 
 zeros-left : (n : ℕ) → zeros (n - n / 64 * 64) ≡ zeros n
 unfolding zeros
 zeros-left n = omega arith
 
 -- the whole blocks of the message first, then its end, of which the code takes the k bytes after those
-pub whole : (m : List ℕ) (k : ℕ) (s r : State) → k ≡ length m - length m / 64 * 64 → s ≡ hash H0 m → r ≡ hash s (ending (take k (drop (length m / 64 * 64) m)) (length m * 2 ^ 3 % 2 ^ 64)) → digest r ≡ sha256 m
+pub whole : (m : List ℕ) (k : ℕ) (s r : State) → k ≡ length m - length m / 64 * 64 → s ≡ hash H0 m
+    → r ≡ hash s (ending (take k (drop (length m / 64 * 64) m)) (length m * 2 ^ 3 % 2 ^ 64)) → digest r ≡ sha256 m
 unfolding ending pad sha256
 whole m k s r e f g =
     let q : List ℕ = drop (length m / 64 * 64) m in

@@ -25,23 +25,27 @@ before b w t =
     later (ltb t 16) (wordAt b t)
     (λ f.
     let h : 16 ≤ t = ltb-false t 16 f in
-    let at : (k : ℕ) → 0 < k → k ≤ t → getD (take t w) (t - k) 0 ≡ getD w (t - k) 0 = λ k p q. getD-take t w (t - k) 0 (omega arith) in
-    rw (at 2 (omega arith) (omega arith), at 7 (omega arith) (omega arith), at 15 (omega arith) (omega arith), at 16 (omega arith) (omega arith)))
+    let same : (k : ℕ) → 0 < k → k ≤ 16 → getD (take t w) (t - k) 0 ≡ getD w (t - k) 0 = λ k p q. getD-take t w (t - k) 0 (omega arith) in
+    rw (same 2 (omega arith) (omega arith), same 7 (omega arith) (omega arith), same 15 (omega arith) (omega arith), same 16 (omega arith) (omega arith)))
 
-pub schedule-turn : (b w : List ℕ) (t v : ℕ) → t < length w → take t w ≡ schedule b t → v ≡ word b w t → take (t + 1) (set w t v) ≡ schedule b (t + 1)
+pub schedule-turn : (b w : List ℕ) (t v : ℕ) → t < length w → take t w ≡ schedule b t → v ≡ word b w t
+    → take (t + 1) (set w t v) ≡ schedule b (t + 1)
 unfolding schedule
-schedule-turn b w t v h e q = rw (add-one, ← e) (take-suc-set w t v h ∙ ap (λ (x : ℕ). take t w ++ (x ∷ [])) (q ∙ sym (before b w t)))
+schedule-turn b w t v h e q =
+    rw (add-one, ← e) (take-suc-set w t v h ∙ ap (λ (x : ℕ). take t w ++ (x ∷ [])) (q ∙ sym (before b w t)))
 
 pub schedule-done : (b w : List ℕ) (t : ℕ) → t ≡ 64 → length w ≡ 64 → take t w ≡ schedule b t → w ≡ schedule b 64
 schedule-done b w t h l e = sym (take-all t w (omega arith)) ∙ e ∙ ap (schedule b) h
 
 -- ---- the rounds
 
-pub rounds-turn : (w : List ℕ) (s r q : State) (t k : ℕ) → r ≡ rounds w s t → k ≡ getD K t 0 → q ≡ round r k (getD w t 0) → q ≡ rounds w s (t + 1)
+pub rounds-turn : (w : List ℕ) (s r q : State) (t k : ℕ) → r ≡ rounds w s t → k ≡ getD K t 0 → q ≡ round r k (getD w t 0)
+    → q ≡ rounds w s (t + 1)
 unfolding rounds
 rounds-turn w s r q t k e f g = rw add-one (g ∙ ap₂ (λ (x : State) (y : ℕ). round x y (getD w t 0)) e f)
 
-pub rounds-done : (b w : List ℕ) (s r q : State) (t : ℕ) → t ≡ 64 → w ≡ schedule b 64 → r ≡ rounds w s t → q ≡ add s r → q ≡ compress s b
+pub rounds-done : (b w : List ℕ) (s r q : State) (t : ℕ) → t ≡ 64 → w ≡ schedule b 64 → r ≡ rounds w s t → q ≡ add s r
+    → q ≡ compress s b
 unfolding compress
 rounds-done b w s r q t h e f p = p ∙ ap (add s) (f ∙ ap₂ (λ (x : List ℕ) (n : ℕ). rounds x s n) e h)
 
@@ -60,7 +64,8 @@ hash-none s q h =
     rw n
 
 -- the code takes the next n bytes, 64 of them
-pub blocks-turn : (m : List ℕ) (at n : ℕ) (r q x : State) → n ≡ 64 → at + 64 ≤ length m → q ≡ compress r (take n (drop at m)) → hash r (drop at m) ≡ x → hash q (drop (at + 64) m) ≡ x
+pub blocks-turn : (m : List ℕ) (at n : ℕ) (r q x : State) → n ≡ 64 → at + 64 ≤ length m
+    → q ≡ compress r (take n (drop at m)) → hash r (drop at m) ≡ x → hash q (drop (at + 64) m) ≡ x
 blocks-turn m at n r q x e h p y =
     let l : 64 ≤ length (drop at m) = simp length-drop (omega arith) in
     rw (p, e, ← drop-drop) (sym (hash-step r (drop at m) l) ∙ y)

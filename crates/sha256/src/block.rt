@@ -21,7 +21,7 @@ fn join(a: u8, b: u8, c: u8, d: u8) -> u32
     ((a as u32 * 256 + b as u32) * 256 + c as u32) * 256 + d as u32
 }
 
-// Step 1: a word of the schedule from the four before it that it is made of.
+// Step 1: a word of the schedule, from the four before it that it is made of.
 fn mix(w2: u32, w7: u32, w15: u32, w16: u32) -> u32
     ensures { λ r. ⌜ r ≡ S.mix w2 w7 w15 w16 ⌝ }
 {
@@ -43,6 +43,7 @@ fn word(b: &[u8], w: &[u32; 64], t: usize) -> u32
     }
 }
 
+// The schedule of a block.
 fn schedule(b: &[u8]) -> [u32; 64]
     requires { ⌜ length (now b) ≡ 64 ⌝ }
     ensures { λ r. ⌜ r ≡ S.schedule (now (b .entry)) 64 ⌝ }
@@ -54,7 +55,7 @@ fn schedule(b: &[u8]) -> [u32; 64]
     w
 }
 
-// Step 3: a round, with T1 and T2 of its text.
+// Step 3: T1, T2 and a round with them.
 fn t1(s: State, k: u32, w: u32) -> u32
     ensures { λ r. ⌜ r ≡ S.T1 s k w ⌝ }
 {

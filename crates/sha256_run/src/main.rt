@@ -3,8 +3,8 @@
 // stdout; tests/sha256_stdout.py makes it.
 use libc::STDOUT_FILENO;
 ghost use mathlib.Core.Path.{_≡_};
-ghost use lib.ListN.{length};
 ghost use Prim.Native.Nat.{_≤_};
+ghost use lib.ListN.{length};
 
 // The digit of the lower half of a byte.
 fn digit(b: u8) -> u8 {
@@ -24,7 +24,7 @@ fn show(m: &[u8]) {
     io::write_all(STDOUT_FILENO, &line);
 }
 
-// The examples of FIPS 180-4's text and the first of NIST's short messages.
+// Short messages: NIST's worked examples, then the first of its validation system's.
 fn short() {
     show(b"abc");
     show(b"");
@@ -32,6 +32,8 @@ fn short() {
     show(
         b"abcdefghbcdefghicdefghijdefghijkefghijklfghijklmghijklmnhijklmnoijklmnopjklmnopqklmnopqrlmnopqrsmnopqrstnopqrstu",
     );
+    show(b"\xbd");
+    show(b"\xc9\x8c\x8e\x55");
     show(b"\xd3");
     show(b"\x11\xaf");
     show(b"\xb4\x19\x0e");
@@ -40,18 +42,16 @@ fn short() {
     show(b"\xe1\xdc\x72\x4d\x56\x21");
     show(b"\x06\xe0\x76\xf5\xa4\x42\xd5");
     show(b"\x57\x38\xc9\x29\xc4\xf4\xcc\xb6");
-    show(b"\xbd");
-    show(b"\xc9\x8c\x8e\x55");
 }
 
-// The `ensures` gives only the length, which lending the array needs.
+// The letter a, a million times. The `ensures` gives only the length, which lending the array needs.
 fn million() -> [u8; 1_000_000]
     ensures { λ r. ⌜ 1_000_000 ≡ length r ⌝ }
 {
     [b'a'; 1_000_000]
 }
 
-// NIST's examples of one byte over and over: zeros about the end of a block, and long messages.
+// NIST's examples of one byte over and over: zeros about the end of a block, and longer messages.
 fn long() {
     let zeros = [0u8; 1000];
     show(&zeros[0..55]);

@@ -1,7 +1,7 @@
 -- `sha256::digest` meets its contract: each byte is the definition's own expression. Assumes nothing.
 use mathlib.Core.Path.{refl}
-use borrow.Author.Needs.{needs}
 use Rattle.fips.specs.Sha256 as S
+use Rattle.sha256.proofs.Numbers.{low}
 use Rattle.sha256.proofs.digest.Statement.{statement}
 use Rattle.sha256.proofs.digest.Tie as tie
 
@@ -11,12 +11,8 @@ returns c = refl
 
 pub digest-spec : {M : Type 1} → statement M
 digest-spec = tie.close (tie.spec
-    (λ c. search needs) (λ c. search needs) (λ c. search needs) (λ c. search needs)
-    (λ c. search needs) (λ c. search needs) (λ c. search needs) (λ c. search needs)
-    (λ c. search needs) (λ c. search needs) (λ c. search needs) (λ c. search needs)
-    (λ c. search needs) (λ c. search needs) (λ c. search needs) (λ c. search needs)
-    (λ c. search needs) (λ c. search needs) (λ c. search needs) (λ c. search needs)
-    (λ c. search needs) (λ c. search needs) (λ c. search needs) (λ c. search needs)
-    (λ c. search needs) (λ c. search needs) (λ c. search needs) (λ c. search needs)
-    (λ c. search needs) (λ c. search needs) (λ c. search needs) (λ c. search needs)
+    (λ c. low _) (λ c. low _) (λ c. low _) (λ c. low _) (λ c. low _) (λ c. low _) (λ c. low _) (λ c. low _)
+    (λ c. low _) (λ c. low _) (λ c. low _) (λ c. low _) (λ c. low _) (λ c. low _) (λ c. low _) (λ c. low _)
+    (λ c. low _) (λ c. low _) (λ c. low _) (λ c. low _) (λ c. low _) (λ c. low _) (λ c. low _) (λ c. low _)
+    (λ c. low _) (λ c. low _) (λ c. low _) (λ c. low _) (λ c. low _) (λ c. low _) (λ c. low _) (λ c. low _)
     returns)
