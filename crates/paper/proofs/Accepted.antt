@@ -1,4 +1,5 @@
--- What an accepted answer of each checker tells: the bytes have the layout, and every test holds. Assumes nothing.
+-- A checker accepts exactly where the bytes have the layout and every test holds: what an accepted answer tells, and the way back.
+-- Assumes nothing.
 use mathlib.Core.Path.{_≡_, refl, sym, ap, _∙_, subst}
 use mathlib.Core.Bool.{Bool, true, false, _&&_}
 use mathlib.Core.List.{List, [], _∷_, _++_}
@@ -15,12 +16,12 @@ use Rattle.paper.specs.Verdict.{Test, verdict}
 use Rattle.paper.specs.Shows.{Asked, Terms, Proof, pathTests, proofTests, inputTests}
 use Rattle.paper.specs.Lookup.{lookupAsked, lookupField, lookupTerms, lookupStrings, lookupGives, lookupRead, checkLookup}
 use Rattle.paper.specs.History.{historyAsked, historyField, historyTerms, historyStrings, historyRead, checkHistory}
-use Rattle.paper.specs.Audit.{Audit, auditField, auditTests, auditStrings, auditRead, checkAudit}
+use Rattle.paper.specs.Audit.{Audit, auditField, auditTests, auditStrings, auditInputTests, auditRead, checkAudit}
 use Rattle.paper.specs.Answer.{lookupNumber, historyNumber, auditNumber}
 use Rattle.paper.specs.declared.LookupAnswer.the-variants as L
 use Rattle.paper.specs.declared.HistoryAnswer.the-variants as H
 use Rattle.paper.specs.declared.AuditAnswer.the-variants as A
-use Rattle.paper.proofs.Verdicts.{Hold, Numbered, accepted}
+use Rattle.paper.proofs.Verdicts.{Hold, Numbered, accepted, verdict-all}
 use Rattle.paper.proofs.Layouts.{Lawful, bytes-parse}
 use Rattle.paper.proofs.Proofs.{lookup-lawful, history-lawful, audit-lawful}
 
@@ -70,6 +71,11 @@ module _ (lab : Labelling) (d name b : Bytes) where
           record { proof = p; found = o; holds = h; answer = q ∙ r }
       read (got p (x ∷ r)) o q z = absurd (whole-behind (lookupField .read b) p x r o)
 
+  pub lookup-accept : (p : Proof) → parse lookupField b ≡ got p [] → Hold (inputTests d name) → Hold (proofTests lab name d (lookupTerms p) (lookupAsked (p .number)) p)
+      → checkLookup lab d name b ≡ lookupGives lab name (p .number) (p .head .epoch) (length (lookupStrings lab name p))
+  unfolding checkLookup
+  lookup-accept p o h k = verdict-all _ _ (inputTests d name) h ∙ ap (lookupRead lab name d) o ∙ verdict-all _ _ _ k
+
   -- an accepted history
   pub record HistoryTold : Type 0 where
     pub proof : Proof
@@ -91,6 +97,12 @@ module _ (lab : Labelling) (d name b : Bytes) where
           record { proof = p; found = o; holds = h; answer = q ∙ r }
       read (got p (x ∷ r)) o q z = absurd (whole-behind (historyField .read b) p x r o)
 
+  pub history-accept : (p : Proof) → parse historyField b ≡ got p [] → Hold (inputTests d name)
+      → Hold (proofTests lab name d (historyTerms p) (historyAsked (p .number) (p .head .epoch)) p)
+      → checkHistory lab d name b ≡ H.Accepted (p .number) (p .head .epoch) (length (historyStrings lab name p))
+  unfolding checkHistory
+  history-accept p o h k = verdict-all _ _ (inputTests d name) h ∙ ap (historyRead lab name d) o ∙ verdict-all _ _ _ k
+
 module _ (d d′ b : Bytes) where
   -- an accepted audit
   pub record AuditTold : Type 0 where
@@ -102,7 +114,7 @@ module _ (d d′ b : Bytes) where
   pub audit-told : auditNumber (checkAudit d d′ b) ≡ 0 → AuditTold
   unfolding checkAudit
   audit-told e =
-      let (_, q) = accepted A.Refused (auditRead d d′ (parse auditField b)) auditNumber (λ n. refl) _ (omega arith, tt) e in
+      let (_, q) = accepted A.Refused (auditRead d d′ (parse auditField b)) auditNumber (λ n. refl) (auditInputTests d d′) (omega arith, tt) e in
       read (parse auditField b) refl q (ap auditNumber (sym q) ∙ e)
     where
       read : (m : Read Audit) → parse auditField b ≡ m → checkAudit d d′ b ≡ auditRead d d′ m → auditNumber (auditRead d d′ m) ≡ 0 → AuditTold
@@ -111,3 +123,8 @@ module _ (d d′ b : Bytes) where
           let (h, r) = accepted A.Refused (A.Accepted (a .before .epoch) (a .after .epoch) (length (auditStrings a))) auditNumber (λ n. refl) (auditTests d d′ a) (audit-numbered d d′ a) z in
           record { audit = a; found = o; holds = h; answer = q ∙ r }
       read (got a (x ∷ r)) o q z = absurd (whole-behind (auditField .read b) a x r o)
+
+  pub audit-accept : (a : Audit) → parse auditField b ≡ got a [] → Hold (auditInputTests d d′) → Hold (auditTests d d′ a)
+      → checkAudit d d′ b ≡ A.Accepted (a .before .epoch) (a .after .epoch) (length (auditStrings a))
+  unfolding checkAudit
+  audit-accept a o h k = verdict-all _ _ (auditInputTests d d′) h ∙ ap (auditRead d d′) o ∙ verdict-all _ _ _ k

@@ -9,14 +9,23 @@ use native.Mathlib.Omega.{arith}
 use native.Mathlib.Decide.{decLe}
 use lib.ListN.{length, take, drop, length-append, length-drop, take-append-drop, replicate}
 use lib.Seq.{drop-at, drop-nil}
-use lib.Pow.{pow-pos, split, high, low}
-use lib.Dec.{leb, eqb}
-use borrow.Author.Tests.{eqb-true, eq-eqb}
+use lib.Pow.{pow-pos, split, high, low, areBytes}
+use lib.Dec.{T, leb, ltb, eqb}
+use borrow.Author.Tests.{eqb-true, eq-eqb, ltb-true}
 use Rattle.paper.specs.Lists.{All}
 use Rattle.paper.specs.Bytes.{Bytes, Bytewise, be, number, same}
 use Rattle.paper.specs.Bits.{Bits, Pfx, toBits, fromBits, bitVal, bitsOf, pack}
 use Rattle.paper.proofs.Lists.{and-left, and-right, and-both, not-both}
 use Rattle.paper.proofs.Bits.{pfx-nil, pfx-cons, pfx-app, pfx-compare, pfx-full, pfx-trans}
+
+-- the library's test of bytes
+pub bytewise : (s : Bytes) → T (areBytes s) → Bytewise s
+bytewise [] h = tt
+bytewise (b ∷ s) h = by (ltb b 256) refl h (bytewise s)
+  where
+    by : (t : Bool) → ltb b 256 ≡ t → T (t && areBytes s) → (T (areBytes s) → Bytewise s) → (b < 256) × Bytewise s
+    by true e k f = (ltb-true b 256 e, f k)
+    by false e k f = absurd k
 
 -- ---- the same string
 

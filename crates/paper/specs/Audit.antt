@@ -152,6 +152,10 @@ abbrev pub auditRead : Bytes → Bytes → Read Audit → AuditAnswer
 auditRead d d′ bad = Refused FORM
 auditRead d d′ (got a r) = verdict Refused (Accepted (a .before .epoch) (a .after .epoch) (length (auditStrings a))) (auditTests d d′ a)
 
+-- "an argument breaks the bounds": heads of 32 bytes
+abbrev pub auditInputTests : Bytes → Bytes → List Test
+auditInputTests d d′ = test INPUT (eqb (length d) wide && eqb (length d′) wide) ∷ []
+
 -- what the audit checker answers to two heads and proof bytes
 unfoldable pub checkAudit : Bytes → Bytes → Bytes → AuditAnswer
-checkAudit d d′ b = verdict Refused (auditRead d d′ (parse auditField b)) (test INPUT (eqb (length d) wide && eqb (length d′) wide) ∷ [])
+checkAudit d d′ b = verdict Refused (auditRead d d′ (parse auditField b)) (auditInputTests d d′)

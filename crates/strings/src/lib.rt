@@ -1,5 +1,7 @@
-// The digests of document 01's "Strings that are hashed", one function to a string. An array of the string's first byte
-// is made, and the rest of the string is laid over it, part behind part from place 1 on.
+// The digests of document 01's "Strings that are hashed", a function for each string. An array is
+// made of the string's first byte alone, and the other parts are laid over it, one right behind the
+// other, from place 1 on. A label's and a commitment's array has room for the longest name or key,
+// and its front is hashed.
 use sha256::sha256;
 use words::put;
 use words::write16;
@@ -22,8 +24,8 @@ pub fn leaf(label: &[u8; 32], commitment: &[u8; 32], epoch: u32) -> [u8; 32]
     sha256(&s)
 }
 
-// "Inner node, 99 bytes: 0x01, prefix length 2, prefix 32 (bits past the length zero), left digest 32, right digest 32."
-// The prefix is hashed as it is given: who gives it sees to its zero bits.
+// "Inner node, 99 bytes: 0x01, prefix length 2, prefix 32 (bits past the length zero), left digest
+// 32, right digest 32." The prefix is hashed as it is given: who gives it sees to its zero bits.
 pub fn inner(length: u16, prefix: &[u8; 32], left: &[u8; 32], right: &[u8; 32]) -> [u8; 32]
     ensures { λ r. ⌜ r ≡ F.sha256 (S.innerString length (now (prefix .entry)) (now (left .entry)) (now (right .entry))) ⌝ }
 {
@@ -71,20 +73,21 @@ pub fn head(epoch: u32, previous: &[u8; 32], all: &[u8; 32], old: &[u8; 32]) -> 
     sha256(&s)
 }
 
-// "Label: 0x04, kind 1, number 2, name. Kind 1 is a version, kind 2 a marker."
+// "Label: 0x04, kind 1, number 2, name. Kind 1 is a version, kind 2 a marker." A name has at most 64
+// bytes, which the caller has tested.
 pub fn label(kind: u8, number: u16, name: &[u8]) -> [u8; 32]
     requires { ⌜ length (now name) ≤ 64 ⌝ }
     ensures { λ r. ⌜ r ≡ F.sha256 (S.labelString kind number (now (name .entry))) ⌝ }
 {
     let mut s = [0x04u8; 68];
-    s[1] = kind;
+    put(&mut s, 1, &[kind]);
     write16(&mut s, 2, number);
     put(&mut s, 4, name);
     let n = 4 + name.len();
     sha256(&s[..n])
 }
 
-// "Commitment: 0x05, opening 32, key."
+// "Commitment: 0x05, opening 32, key." A key has at most 64 bytes, which the caller has tested.
 pub fn commitment(opening: &[u8; 32], key: &[u8]) -> [u8; 32]
     requires { ⌜ length (now key) ≤ 64 ⌝ }
     ensures { λ r. ⌜ r ≡ F.sha256 (S.commitmentString (now (opening .entry)) (now (key .entry))) ⌝ }

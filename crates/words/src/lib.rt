@@ -1,5 +1,6 @@
-// Numbers in bytes, and copies and compares of bytes: what is done with strings before it is asked what they mean.
-// Document 01: "All stored numbers are big-endian."
+// Numbers in bytes, and copies and compares of bytes: what is done with strings before it is asked
+// what they mean. "All stored numbers are big-endian." A number of four bytes is one of two bytes
+// and, behind it, another.
 ghost use mathlib.Core.Path.{_≡_};
 ghost use Prim.Native.Nat.{_+_, _≤_};
 ghost use lib.Dec.{eqb};
@@ -17,7 +18,7 @@ pub fn read16(s: &[u8], at: usize) -> u16
     (high as u16) * 256 + (low as u16)
 }
 
-// The number in the four bytes of `s` from `at` on: two numbers of two bytes.
+// The number in the four bytes of `s` from `at` on.
 pub fn read32(s: &[u8], at: usize) -> u32
     requires { ⌜ at + 4 ≤ length (now s) ⌝ }
     ensures { λ r. ⌜ r ≡ B.number (take 4 (drop at (now (s .entry)))) ⌝ }
@@ -36,7 +37,7 @@ pub fn write16(dst: &mut [u8], at: usize, n: u16)
     dst[at + 1] = (n % 256) as u8;
 }
 
-// Lays the four bytes of `n` over `dst` from `at` on: the upper two, and behind them the lower two.
+// Lays the four bytes of `n` over `dst` from `at` on.
 pub fn write32(dst: &mut [u8], at: usize, n: u32)
     requires { ⌜ at + 4 ≤ length (now dst) ⌝ }
     ensures { λ _. ⌜ now (dst .exit) ≡ B.pasted (now (dst .entry)) at (B.be 4 n) ⌝ }

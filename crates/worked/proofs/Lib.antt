@@ -1,2 +1,3 @@
 -- Worked cases.
 pub mod Cases
+pub mod Promise

@@ -12,29 +12,8 @@ use Rattle.strings.proofs.Row.{Parts, row-front}
 use Rattle.strings.proofs.commitment.Statement.{statement}
 use Rattle.strings.proofs.commitment.Tie as tie
 
-slice-aggregate-put : tie.Need-slice-aggregate-put
-slice-aggregate-put c = search needs
-
-put-requires : tie.Need-put-requires
-put-requires c κs = search needs
-
-slice-aggregate-put-2 : tie.Need-slice-aggregate-put-2
-slice-aggregate-put-2 c = search needs
-
-put-requires-2 : tie.Need-put-requires-2
-put-requires-2 c κs = search needs
-
-add-n : tie.Need-add-n
-add-n c = search needs
-
-array-share-prefix-s : tie.Need-array-share-prefix-s
-array-share-prefix-s c = search needs
-
 slice-aggregate-sha256 : tie.Need-slice-aggregate-sha256
 slice-aggregate-sha256 c = sym (length-take-le _ _ (search needs))
-
-sha256-requires : tie.Need-sha256-requires
-sha256-requires c κs = search needs
 
 returns : tie.Need-returns
 unfolding commitmentString
@@ -49,12 +28,12 @@ pub commitment-spec : {M : Type 1} → statement M
 commitment-spec =
     tie.close
     (tie.spec
-    slice-aggregate-put
-    put-requires
-    slice-aggregate-put-2
-    put-requires-2
-    add-n
-    array-share-prefix-s
+    (λ c. search needs)
+    (λ c κs. search needs)
+    (λ c. search needs)
+    (λ c κs. search needs)
+    (λ c. search needs)
+    (λ c. search needs)
     slice-aggregate-sha256
-    sha256-requires
+    (λ c κs. search needs)
     returns)

@@ -11,36 +11,6 @@ use Rattle.strings.proofs.Row.{Parts, row-all}
 use Rattle.strings.proofs.inner.Statement.{statement}
 use Rattle.strings.proofs.inner.Tie as tie
 
-slice-aggregate-write16 : tie.Need-slice-aggregate-write16
-slice-aggregate-write16 c = search needs
-
-write16-requires : tie.Need-write16-requires
-write16-requires c κs = search needs
-
-slice-aggregate-put : tie.Need-slice-aggregate-put
-slice-aggregate-put c = search needs
-
-put-requires : tie.Need-put-requires
-put-requires c κs = search needs
-
-slice-aggregate-put-2 : tie.Need-slice-aggregate-put-2
-slice-aggregate-put-2 c = search needs
-
-put-requires-2 : tie.Need-put-requires-2
-put-requires-2 c κs = search needs
-
-slice-aggregate-put-3 : tie.Need-slice-aggregate-put-3
-slice-aggregate-put-3 c = search needs
-
-put-requires-3 : tie.Need-put-requires-3
-put-requires-3 c κs = search needs
-
-slice-aggregate-sha256 : tie.Need-slice-aggregate-sha256
-slice-aggregate-sha256 c = search needs
-
-sha256-requires : tie.Need-sha256-requires
-sha256-requires c κs = search needs
-
 returns : tie.Need-returns
 unfolding innerString
 returns c =
@@ -57,14 +27,14 @@ pub inner-spec : {M : Type 1} → statement M
 inner-spec =
     tie.close
     (tie.spec
-    slice-aggregate-write16
-    write16-requires
-    slice-aggregate-put
-    put-requires
-    slice-aggregate-put-2
-    put-requires-2
-    slice-aggregate-put-3
-    put-requires-3
-    slice-aggregate-sha256
-    sha256-requires
+    (λ c. search needs)
+    (λ c κs. search needs)
+    (λ c. search needs)
+    (λ c κs. search needs)
+    (λ c. search needs)
+    (λ c κs. search needs)
+    (λ c. search needs)
+    (λ c κs. search needs)
+    (λ c. search needs)
+    (λ c κs. search needs)
     returns)

@@ -4,65 +4,43 @@ use native.Mathlib.Omega.{arith}
 use mathlib.Core.Path.{sym, ap, _∙_}
 use mathlib.Core.List.{[], _∷_}
 use Prim.Native.Nat.{_+_}
-use lib.ListN.{length, replicate}
+use lib.ListN.{length}
 use lib.Seq.{length-take-le}
 use Rattle.fips.specs.Sha256.{sha256}
 use Rattle.paper.specs.Bytes.{be}
 use Rattle.paper.specs.Strings.{labelString}
 use Rattle.paper.proofs.Bytes.{be-length}
-use Rattle.words.proofs.Pasted.{pasted-one}
 use Rattle.strings.proofs.Row.{Parts, row-front}
 use Rattle.strings.proofs.label.Statement.{statement}
 use Rattle.strings.proofs.label.Tie as tie
 
-array-write-s : tie.Need-array-write-s
-array-write-s c = search needs
-
-slice-aggregate-write16 : tie.Need-slice-aggregate-write16
-slice-aggregate-write16 c = search needs
-
-write16-requires : tie.Need-write16-requires
-write16-requires c κs = search needs
-
-slice-aggregate-put : tie.Need-slice-aggregate-put
-slice-aggregate-put c = search needs
-
-put-requires : tie.Need-put-requires
-put-requires c κs = search needs
-
-add-n : tie.Need-add-n
-add-n c = search needs
-
-array-share-prefix-s : tie.Need-array-share-prefix-s
-array-share-prefix-s c = search needs
-
 slice-aggregate-sha256 : tie.Need-slice-aggregate-sha256
 slice-aggregate-sha256 c = sym (length-take-le _ _ (search needs))
-
-sha256-requires : tie.Need-sha256-requires
-sha256-requires c κs = search needs
 
 returns : tie.Need-returns
 unfolding labelString
 returns c =
     let third = c .before .before .before in
     let second = third .before .before .before in
-    let a = second .before .before .before .args in
+    let first = second .before .before .before in
+    let a = first .before .before .before .before .args in
     let parts : Parts = (1, a .kind ∷ []) ∷ (2, be 2 (a .number)) ∷ (4, a .name .now) ∷ [] in
     let e = be-length 2 (a .number) in
-    c .sha256 .ensures ∙ ap sha256 (rw (third .put .ensures, second .write16 .ensures, pasted-one (replicate 68 0x04) 1 (a .kind) (omega arith)) (row-front 68 0x04 parts (4 + length (a .name .now)) (search needs) (omega arith)))
+    c .sha256 .ensures ∙ ap sha256 (rw (third .put2 .ensures, second .write16 .ensures, first .put .ensures) (row-front 68 0x04 parts (4 + length (a .name .now)) (search needs) (omega arith)))
 
 pub label-spec : {M : Type 1} → statement M
 label-spec =
     tie.close
     (tie.spec
-    array-write-s
-    slice-aggregate-write16
-    write16-requires
-    slice-aggregate-put
-    put-requires
-    add-n
-    array-share-prefix-s
+    (λ c. search needs)
+    (λ c. search needs)
+    (λ c κs. search needs)
+    (λ c. search needs)
+    (λ c κs. search needs)
+    (λ c. search needs)
+    (λ c κs. search needs)
+    (λ c. search needs)
+    (λ c. search needs)
     slice-aggregate-sha256
-    sha256-requires
+    (λ c κs. search needs)
     returns)

@@ -11,30 +11,6 @@ use Rattle.strings.proofs.Row.{Parts, row-all}
 use Rattle.strings.proofs.leaf.Statement.{statement}
 use Rattle.strings.proofs.leaf.Tie as tie
 
-slice-aggregate-put : tie.Need-slice-aggregate-put
-slice-aggregate-put c = search needs
-
-put-requires : tie.Need-put-requires
-put-requires c κs = search needs
-
-slice-aggregate-put-2 : tie.Need-slice-aggregate-put-2
-slice-aggregate-put-2 c = search needs
-
-put-requires-2 : tie.Need-put-requires-2
-put-requires-2 c κs = search needs
-
-slice-aggregate-write32 : tie.Need-slice-aggregate-write32
-slice-aggregate-write32 c = search needs
-
-write32-requires : tie.Need-write32-requires
-write32-requires c κs = search needs
-
-slice-aggregate-sha256 : tie.Need-slice-aggregate-sha256
-slice-aggregate-sha256 c = search needs
-
-sha256-requires : tie.Need-sha256-requires
-sha256-requires c κs = search needs
-
 returns : tie.Need-returns
 unfolding leafString
 returns c =
@@ -50,12 +26,12 @@ pub leaf-spec : {M : Type 1} → statement M
 leaf-spec =
     tie.close
     (tie.spec
-    slice-aggregate-put
-    put-requires
-    slice-aggregate-put-2
-    put-requires-2
-    slice-aggregate-write32
-    write32-requires
-    slice-aggregate-sha256
-    sha256-requires
+    (λ c. search needs)
+    (λ c κs. search needs)
+    (λ c. search needs)
+    (λ c κs. search needs)
+    (λ c. search needs)
+    (λ c κs. search needs)
+    (λ c. search needs)
+    (λ c κs. search needs)
     returns)

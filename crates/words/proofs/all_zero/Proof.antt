@@ -20,27 +20,18 @@ abbrev μ-loop : tie.MeasureT-loop
 loop-holds : tie.Need-loop-holds Inv-loop μ-loop
 loop-holds c = (search needs, refl, refl)
 
-shared-slice-read-if1 : tie.Need-shared-slice-read-if1 Inv-loop μ-loop
-shared-slice-read-if1 c = search needs
-
 returns : tie.Need-returns Inv-loop μ-loop
 returns c =
     let s = c .before .before .before .before .args .s .now in
     let i = c .before .before .before .loop .i in
-    sym (c .before .before .before .loop .inv .2 ∙ every-fail (λ b. eqb b 0) s i (omega arith) (ne-eqb (getD s i 0) 0 (c .if1 .taken)))
-
-add-i : tie.Need-add-i Inv-loop μ-loop
-add-i c = search needs
-
-loop-less : tie.Need-loop-less Inv-loop μ-loop
-loop-less c = search needs
+    sym (c .before .before .before .loop .inv .2 ∙ every-fail (λ b. eqb b 0) s i (omega arith) (ne-eqb (getD s i 0) 0 (λ e. omega arith)))
 
 loop-again : tie.Need-loop-again Inv-loop μ-loop
 loop-again c =
     let s = c .before .before .before .before .args .s .now in
     let i = c .before .before .before .loop .i in
     let inv = c .before .before .before .loop .inv in
-    (search needs, inv .1, inv .2 ∙ every-pass (λ b. eqb b 0) s i (omega arith) (eq-eqb (getD s i 0) 0 (c .if1 .left)))
+    (search needs, inv .1, inv .2 ∙ every-pass (λ b. eqb b 0) s i (omega arith) (eq-eqb (getD s i 0) 0 (omega arith)))
 
 returns-2 : tie.Need-returns-2 Inv-loop μ-loop
 returns-2 c = sym (c .before .loop .inv .2 ∙ every-none (λ b. eqb b 0) (c .before .before .args .s .now) (c .before .loop .i) (omega arith))
@@ -52,9 +43,9 @@ all-zero-spec =
     Inv-loop
     μ-loop
     loop-holds
-    shared-slice-read-if1
+    (λ c. search needs)
     returns
-    add-i
-    loop-less
+    (λ c. search needs)
+    (λ c. search needs)
     loop-again
     returns-2)

@@ -8,24 +8,6 @@ use Rattle.words.proofs.Pasted.{part-is, length-part, pasted-end}
 use Rattle.words.proofs.digest_at.Statement.{statement}
 use Rattle.words.proofs.digest_at.Tie as tie
 
-add-after : tie.Need-add-after
-add-after c = search needs
-
-slice-aggregate-put : tie.Need-slice-aggregate-put
-slice-aggregate-put c = search needs
-
-sub-put : tie.Need-sub-put
-sub-put c = search needs
-
-part-put-start : tie.Need-part-put-start
-part-put-start c = search needs
-
-part-put-end : tie.Need-part-put-end
-part-put-end c = search needs
-
-put-requires : tie.Need-put-requires
-put-requires c κs = search needs
-
 returns : tie.Need-returns
 returns c =
     let a = c .before .before .before .before .before .args in
@@ -38,10 +20,10 @@ pub digest-at-spec : {M : Type 1} → statement M
 digest-at-spec =
     tie.close
     (tie.spec
-    add-after
-    slice-aggregate-put
-    sub-put
-    part-put-start
-    part-put-end
-    put-requires
+    (λ c. search needs)
+    (λ c. search needs)
+    (λ c. search needs)
+    (λ c. search needs)
+    (λ c. search needs)
+    (λ c κs. search needs)
     returns)

@@ -19,21 +19,6 @@ abbrev μ-loop : tie.MeasureT-loop
 loop-holds : tie.Need-loop-holds Inv-loop μ-loop
 loop-holds c = (search needs, refl, refl, paste-zero (c .args .dst .now) (c .args .at) (c .args .src .now))
 
-shared-slice-read-dst : tie.Need-shared-slice-read-dst Inv-loop μ-loop
-shared-slice-read-dst c = search needs
-
-add-dst : tie.Need-add-dst Inv-loop μ-loop
-add-dst c = search needs
-
-slice-write-dst : tie.Need-slice-write-dst Inv-loop μ-loop
-slice-write-dst c = search needs
-
-add-i : tie.Need-add-i Inv-loop μ-loop
-add-i c = search needs
-
-loop-less : tie.Need-loop-less Inv-loop μ-loop
-loop-less c = search needs
-
 loop-again : tie.Need-loop-again Inv-loop μ-loop
 loop-again c =
     let a = c .before .before .before .args in
@@ -47,9 +32,6 @@ loop-again c =
       ap (λ l. set l (a .at + i) (getD s i 0)) (inv .3) ∙ paste-suc d (a .at) s i 0 (omega arith) (omega arith) ∙ ap (paste d (a .at) s) (sym (add-one i)),
     )
 
-same-length : tie.Need-same-length Inv-loop μ-loop
-same-length c = search needs
-
 returns : tie.Need-returns Inv-loop μ-loop
 returns c =
     let a = c .before .before .args in
@@ -62,11 +44,11 @@ put-spec =
     Inv-loop
     μ-loop
     loop-holds
-    shared-slice-read-dst
-    add-dst
-    slice-write-dst
-    add-i
-    loop-less
+    (λ c. search needs)
+    (λ c. search needs)
+    (λ c. search needs)
+    (λ c. search needs)
+    (λ c. search needs)
     loop-again
-    same-length
+    (λ c. search needs)
     returns)

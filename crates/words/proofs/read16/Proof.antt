@@ -2,39 +2,18 @@
 use borrow.Author.Needs.{needs}
 use native.Mathlib.Omega.{arith}
 use mathlib.Core.Path.{sym, ap₂, _∙_}
-use Prim.Native.Nat.{_+_, _*_}
+use Prim.Native.Nat.{_+_, _*_, _<_}
+use lib.ListN.{getD}
 use Rattle.words.proofs.Number.{number-one, number-part}
 use Rattle.words.proofs.read16.Statement.{statement}
 use Rattle.words.proofs.read16.Tie as tie
 
-shared-slice-read-high : tie.Need-shared-slice-read-high
-shared-slice-read-high c = search needs
-
-add-low : tie.Need-add-low
-add-low c = search needs
-
-shared-slice-read-low : tie.Need-shared-slice-read-low
-shared-slice-read-low c = search needs
-
-cast-result : tie.Need-cast-result
-cast-result c =
+bytes : (c : tie.After-shared-slice-known2) →
+    let a = c .before .before .args in
+    (getD (a .s .now) (a .at) 0 < 256) × (getD (a .s .now) (a .at + 1) 0 < 256)
+bytes c =
     let at = c .before .before .args .at in
-    omega (arith, c .shared-slice-known2 .given at, c .shared-slice-known2 .given (at + 1))
-
-mul-result : tie.Need-mul-result
-mul-result c =
-    let at = c .before .before .args .at in
-    omega (arith, c .shared-slice-known2 .given at, c .shared-slice-known2 .given (at + 1))
-
-cast-result-2 : tie.Need-cast-result-2
-cast-result-2 c =
-    let at = c .before .before .args .at in
-    omega (arith, c .shared-slice-known2 .given at, c .shared-slice-known2 .given (at + 1))
-
-add-result : tie.Need-add-result
-add-result c =
-    let at = c .before .before .args .at in
-    omega (arith, c .shared-slice-known2 .given at, c .shared-slice-known2 .given (at + 1))
+    (omega (arith, c .shared-slice-known2 .given at), omega (arith, c .shared-slice-known2 .given (at + 1)))
 
 returns : tie.Need-returns
 returns c =
@@ -46,11 +25,11 @@ pub read16-spec : {M : Type 1} → statement M
 read16-spec =
     tie.close
     (tie.spec
-    shared-slice-read-high
-    add-low
-    shared-slice-read-low
-    cast-result
-    mul-result
-    cast-result-2
-    add-result
+    (λ c. search needs)
+    (λ c. search needs)
+    (λ c. search needs)
+    (λ c. let b = bytes c in omega arith)
+    (λ c. let b = bytes c in omega arith)
+    (λ c. let b = bytes c in omega arith)
+    (λ c. let b = bytes c in omega arith)
     returns)

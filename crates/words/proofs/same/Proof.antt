@@ -18,27 +18,15 @@ abbrev μ-loop : tie.MeasureT-loop
 μ-loop a b i₀ i-end i = length a - i
 
 returns : tie.Need-returns Inv-loop μ-loop
-returns c = sym (not-same (c .before .args .a .now) (c .before .args .b .now) (λ e. c .if1 .taken (ap length e)))
+returns c = sym (not-same (c .before .args .a .now) (c .before .args .b .now) (λ e. omega (arith, ap length e)))
 
 loop-holds : tie.Need-loop-holds Inv-loop μ-loop
-loop-holds c = (search needs, refl, c .if1 .left, below-none _)
-
-shared-slice-read-if2 : tie.Need-shared-slice-read-if2 Inv-loop μ-loop
-shared-slice-read-if2 c = search needs
-
-shared-slice-read-if2-2 : tie.Need-shared-slice-read-if2-2 Inv-loop μ-loop
-shared-slice-read-if2-2 c = search needs
+loop-holds c = (search needs, refl, search needs, below-none _)
 
 returns-2 : tie.Need-returns-2 Inv-loop μ-loop
 returns-2 c =
     let a = c .before .before .before .before .before .before .args in
     sym (not-same (a .a .now) (a .b .now) (λ e. c .if2 .taken (ap (λ l. getD l (c .before .before .before .before .loop .i) 0) e)))
-
-add-i : tie.Need-add-i Inv-loop μ-loop
-add-i c = search needs
-
-loop-less : tie.Need-loop-less Inv-loop μ-loop
-loop-less c = search needs
 
 loop-again : tie.Need-loop-again Inv-loop μ-loop
 loop-again c =
@@ -58,10 +46,10 @@ same-spec =
     μ-loop
     returns
     loop-holds
-    shared-slice-read-if2
-    shared-slice-read-if2-2
+    (λ c. search needs)
+    (λ c. search needs)
     returns-2
-    add-i
-    loop-less
+    (λ c. search needs)
+    (λ c. search needs)
     loop-again
     returns-3)

@@ -9,23 +9,8 @@ use Rattle.words.proofs.Number.{pasted-byte, pasted-halves}
 use Rattle.words.proofs.write16.Statement.{statement}
 use Rattle.words.proofs.write16.Tie as tie
 
-cast-dst : tie.Need-cast-dst
-cast-dst c = search needs
-
-slice-write-dst : tie.Need-slice-write-dst
-slice-write-dst c = search needs
-
-cast-dst-2 : tie.Need-cast-dst-2
-cast-dst-2 c = search needs
-
-add-dst : tie.Need-add-dst
-add-dst c = search needs
-
 slice-write-dst-2 : tie.Need-slice-write-dst-2
 slice-write-dst-2 c = simp length-set (omega arith)
-
-same-length : tie.Need-same-length
-same-length c = search needs
 
 returns : tie.Need-returns
 returns c =
@@ -38,4 +23,4 @@ returns c =
 pub write16-spec : {M : Type 1} → statement M
 write16-spec =
     tie.close
-    (tie.spec cast-dst slice-write-dst cast-dst-2 add-dst slice-write-dst-2 same-length returns)
+    (tie.spec (λ c. search needs) (λ c. search needs) (λ c. search needs) (λ c. search needs) slice-write-dst-2 (λ c. search needs) returns)

@@ -8,24 +8,6 @@ use Rattle.words.proofs.Number.{pasted-halves}
 use Rattle.words.proofs.write32.Statement.{statement}
 use Rattle.words.proofs.write32.Tie as tie
 
-cast-write16 : tie.Need-cast-write16
-cast-write16 c = search needs
-
-write16-requires : tie.Need-write16-requires
-write16-requires c κs = search needs
-
-add-write16 : tie.Need-add-write16
-add-write16 c = search needs
-
-cast-write16-2 : tie.Need-cast-write16-2
-cast-write16-2 c = search needs
-
-write16-requires-2 : tie.Need-write16-requires-2
-write16-requires-2 c κs = search needs
-
-same-length : tie.Need-same-length
-same-length c = search needs
-
 returns : tie.Need-returns
 returns c =
     let a = c .before .before .before .before .before .before .before .before .before .args in
@@ -37,10 +19,10 @@ pub write32-spec : {M : Type 1} → statement M
 write32-spec =
     tie.close
     (tie.spec
-    cast-write16
-    write16-requires
-    add-write16
-    cast-write16-2
-    write16-requires-2
-    same-length
+    (λ c. search needs)
+    (λ c κs. search needs)
+    (λ c. search needs)
+    (λ c. search needs)
+    (λ c κs. search needs)
+    (λ c. search needs)
     returns)
