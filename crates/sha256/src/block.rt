@@ -117,7 +117,7 @@ fn compress(s: State, b: &[u8]) -> State
 }
 
 // The hash value after the whole blocks of `m`. What is left of `m`, less than a block, has no part.
-pub fn blocks(s: State, m: &[u8]) -> State
+pub(crate) fn blocks(s: State, m: &[u8]) -> State
     ensures { λ r. ⌜ r ≡ S.hash s (now (m .entry)) ⌝ }
 {
     let mut r = s;

@@ -73,7 +73,7 @@ const K: [u32; 64] = [
 ];
 
 // The constant of round t.
-pub fn constant(t: usize) -> u32
+pub(crate) fn constant(t: usize) -> u32
     requires { ⌜ t < 64 ⌝ }
     ensures { λ r. ⌜ r ≡ getD W.K t 0 ⌝ }
 {
@@ -88,37 +88,37 @@ fn rotr(x: u32, n: u32) -> u32
     (x >> n) | (x << (32 - n))
 }
 
-pub fn ch(x: u32, y: u32, z: u32) -> u32
+pub(crate) fn ch(x: u32, y: u32, z: u32) -> u32
     ensures { λ r. ⌜ r ≡ W.Ch x y z ⌝ }
 {
     (x & y) ^ (!x & z)
 }
 
-pub fn maj(x: u32, y: u32, z: u32) -> u32
+pub(crate) fn maj(x: u32, y: u32, z: u32) -> u32
     ensures { λ r. ⌜ r ≡ W.Maj x y z ⌝ }
 {
     (x & y) ^ (x & z) ^ (y & z)
 }
 
-pub fn big0(x: u32) -> u32
+pub(crate) fn big0(x: u32) -> u32
     ensures { λ r. ⌜ r ≡ W.Σ0 x ⌝ }
 {
     rotr(x, 2) ^ rotr(x, 13) ^ rotr(x, 22)
 }
 
-pub fn big1(x: u32) -> u32
+pub(crate) fn big1(x: u32) -> u32
     ensures { λ r. ⌜ r ≡ W.Σ1 x ⌝ }
 {
     rotr(x, 6) ^ rotr(x, 11) ^ rotr(x, 25)
 }
 
-pub fn small0(x: u32) -> u32
+pub(crate) fn small0(x: u32) -> u32
     ensures { λ r. ⌜ r ≡ W.σ0 x ⌝ }
 {
     rotr(x, 7) ^ rotr(x, 18) ^ (x >> 3)
 }
 
-pub fn small1(x: u32) -> u32
+pub(crate) fn small1(x: u32) -> u32
     ensures { λ r. ⌜ r ≡ W.σ1 x ⌝ }
 {
     rotr(x, 17) ^ rotr(x, 19) ^ (x >> 10)
