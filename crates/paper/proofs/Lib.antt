@@ -19,6 +19,7 @@ pub mod Agree
 pub mod Accepted
 pub mod KeyPart
 pub mod Facts
+pub mod Way
 pub mod Arrow
 pub mod Rows
 pub mod Marker

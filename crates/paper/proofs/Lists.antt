@@ -81,6 +81,11 @@ module _ {A : Type 0} where
   in-right a [] m k = k
   in-right a (b ∷ l) m k = inr (in-right a l m k)
 
+  pub in-append : (l m : List A) (a : A) → a ∈ (l ++ m) → (a ∈ l) ⊎ (a ∈ m)
+  in-append [] m a k = inr k
+  in-append (b ∷ l) m a (inl e) = inl (inl e)
+  in-append (b ∷ l) m a (inr k) = ⊎-elim (λ u. inl (inr u)) inr (in-append l m a k)
+
   pub lt-append : (l m : List A) (i : ℕ) → i < length l → i < length (l ++ m)
   lt-append l m i h = omega (arith, length-append l m)
 
