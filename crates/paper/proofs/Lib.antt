@@ -20,6 +20,7 @@ pub mod Accepted
 pub mod KeyPart
 pub mod Facts
 pub mod Way
+pub mod Fit
 pub mod Arrow
 pub mod Rows
 pub mod Marker
