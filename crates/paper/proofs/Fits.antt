@@ -4,7 +4,9 @@ use mathlib.Core.List.{List, [], _∷_, _++_}
 use mathlib.Core.Bool.{Bool, true, false}
 use Prim.Native.Nat.{ℕ, zero, suc, _+_, _^_, _≤_, _<_}
 use native.Mathlib.Omega.{arith}
-use lib.ListN.{length}
+use lib.ListN.{length, getD}
+use Rattle.fips.specs.Sha256.{sha256}
+use Rattle.fips.proofs.Size.{sha256-length, sha256-byte}
 use Rattle.paper.specs.Lists.{All}
 use Rattle.paper.specs.Numbers.{wide, keyMost, versionMost}
 use Rattle.paper.specs.Bytes.{Bytes, Bytewise}
@@ -21,6 +23,14 @@ use Rattle.paper.proofs.Strings.{HeadSized}
 pub record Wide (x : Bytes) : Type 0 where
   pub size : length x ≡ wide
   pub bytes : Bytewise x
+
+bytes-all : (s : Bytes) → ((i : ℕ) → getD s i 0 < 256) → Bytewise s
+bytes-all [] h = tt
+bytes-all (b ∷ s) h = (h 0, bytes-all s (λ i. h (suc i)))
+
+-- so is a digest
+pub digest-wide : (s : Bytes) → Wide (sha256 s)
+digest-wide s = record { size = sha256-length s; bytes = bytes-all (sha256 s) (sha256-byte s) }
 
 pub digest-fits : (x : Bytes) → digestField .Fits x → Wide x
 unfolding block

@@ -21,6 +21,7 @@ pub mod KeyPart
 pub mod Facts
 pub mod Way
 pub mod Fit
+pub mod Honest
 pub mod Arrow
 pub mod Rows
 pub mod Marker

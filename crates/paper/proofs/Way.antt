@@ -17,11 +17,12 @@ use Rattle.paper.specs.Strings.{Node, leaf, inner, nothing}
 use Rattle.paper.specs.Tree.{key, digest, Tree, empty, one, fork, top, common, side, build, root}
 use Rattle.paper.specs.Path as P
 use Rattle.paper.specs.Path.{Step, End, this, other, off, none, endNode, stepNode, pathTop, sameBits, lastLength, endAt, waySteps, wayEnd}
-use Rattle.paper.specs.Fields.{riseFrom, rise}
-use Rattle.fips.proofs.Size.{sha256-length}
+use Rattle.paper.specs.Fields.{riseFrom, stepField}
 use Rattle.paper.proofs.Lists.{all-in, in-all, all-left, all-right, and-both, in-append}
 use Rattle.paper.proofs.Bits.{pfx-refl, pfx-nil, pfx-trans, pfx-snoc, pfx-next, pfx-full, pfx-length, length-snoc, pfx-bit, pfx-one-way, pfx-starts, starts-pfx, no-pfx}
 use Rattle.paper.proofs.Tree.{Free, common-most, common-next, side-all, side-below, in-side, side-in, side-free, sides-full}
+use Rattle.paper.proofs.Fits.{digest-wide}
+use Rattle.paper.proofs.Fit.{step-fit}
 use Rattle.paper.proofs.Walk.{sameBits-eq, eq-sameBits, fails, no-starts}
 
 -- a prefix is the label's first bits
@@ -53,7 +54,7 @@ way-top L (fork p l r) = by (starts p L) refl (getD L (length p) false) refl (wa
   where
     by : (b : Bool) → starts p L ≡ b → (c : Bool) → getD L (length p) false ≡ c → pathTop L (waySteps L l) (wayEnd L l) ≡ top l → pathTop L (waySteps L r) (wayEnd L r) ≡ top r
         → pathTop L (cond b (cond c (record { length = length p; sibling = digest (top l) } ∷ waySteps L r) (record { length = length p; sibling = digest (top r) } ∷ waySteps L l)) [])
-          (cond b (cond c (wayEnd L r) (wayEnd L l)) (off p (digest (top l)) (digest (top r))))
+        (cond b (cond c (wayEnd L r) (wayEnd L l)) (off p (digest (top l)) (digest (top r))))
         ≡ inner p (digest (top l)) (digest (top r))
     by false e c q hl hr = refl
     by true e true q hl hr = step-node L p _ _ true e q ∙ ap (λ x. inner p (digest (top l)) (digest x)) hr
@@ -91,7 +92,7 @@ bit-side : (L p : Bits) → length p < length L → starts p L ≡ true → Pfx 
 bit-side L p h e = subst (λ t. Pfx (t ▹ getD L (length p) false) L) (pfx-is-take (starts-pfx p L e)) (pfx-bit L (length p) h)
 
 -- what one step of a label's path is, where the prefix is the label's
-way-fork : (L p : Bits) (l r : Tree) (b : Bool) → starts p L ≡ true → getD L (length p) false ≡ b
+pub way-fork : (L p : Bits) (l r : Tree) (b : Bool) → starts p L ≡ true → getD L (length p) false ≡ b
     → (waySteps L (fork p l r) ≡ record { length = length p; sibling = digest (top (cond b l r)) } ∷ waySteps L (cond b r l)) × (wayEnd L (fork p l r) ≡ wayEnd L (cond b r l))
 unfolding waySteps wayEnd
 way-fork L p l r true e q = rw (e, q) (refl, refl)
@@ -142,10 +143,10 @@ down-count h (stands x g k) = omega arith
 down-count h (leaves p l r g k n) = omega arith
 down-count h (goes p l r b g k w d) = omega (arith, pfx-length g, length-snoc p b, down-count (omega (arith, length-snoc p b)) d)
 
-pub down-short : {L q : Bits} {t : Tree} {ss : List Step} {e : End} → Down L q t ss e → All (λ s. (s .length ≤ 255) × (length (s .sibling) ≡ 32)) ss
-down-short (stands x h k) = tt
-down-short (leaves p l r h k n) = tt
-down-short (goes p l r b h k w d) = ((k, sha256-length _), down-short d)
+pub down-fits : {L q : Bits} {t : Tree} {ss : List Step} {e : End} → Down L q t ss e → All (stepField .Fits) ss
+down-fits (stands x h k) = tt
+down-fits (leaves p l r h k n) = tt
+down-fits (goes p l r b h k w d) = (step-fit _ k (digest-wide _), down-fits d)
 
 -- ---- the end
 
@@ -200,7 +201,7 @@ unfolding endAt
 end-this L c e = rw (eq-sameBits L L refl)
 
 -- on the way to a leaf each prefix is the label's
-build-present : (N n : ℕ) (q L : Bits) (c : Bytes) (e : ℕ) (S : List Node) → length L ≡ 256 → Free S → All (λ y. length (key y) ≤ N) S → All (λ y. Pfx q (key y)) S → N < n + length q
+pub build-present : (N n : ℕ) (q L : Bits) (c : Bytes) (e : ℕ) (S : List Node) → length L ≡ 256 → Free S → All (λ y. length (key y) ≤ N) S → All (λ y. Pfx q (key y)) S → N < n + length q
     → leaf L c e ∈ S → wayEnd L (build n S) ≡ this c e
 unfolding build wayEnd
 build-present N zero q L c e S z f b h k m =
