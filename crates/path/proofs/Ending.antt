@@ -1,0 +1,67 @@
+-- What parsing an end gives, by its kind and its bytes. Assumes nothing.
+use mathlib.Core.Path.{_≡_, refl, sym, ap, ap₂, _∙_, subst}
+use mathlib.Core.Bool.{Bool, true, false, cond, not, _&&_}
+use mathlib.Core.List.{List, [], _∷_}
+use Prim.Native.Nat.{ℕ, zero, suc, _+_, _-_, _*_, _≤_, _<_}
+use native.Mathlib.Omega.{arith}
+use native.Mathlib.Numerals.{add-one}
+use native.Mathlib.Nat.{add-zero}
+use mir.Val.{Fits}
+use mir.Syntax.{w8}
+use lib.ListN.{length, take, drop, getD, length-drop}
+use lib.Seq.{drop-drop, drop-cons}
+use lib.Dec.{leb, eqb}
+use borrow.Author.Tests.{le-leb, lt-leb}
+use Rattle.paper.specs.Numbers.{wide}
+use Rattle.paper.specs.Bytes.{Bytes, Bytewise, zeros, number}
+use Rattle.paper.specs.Layout.{Read, got, bad, Layout, led, within}
+use Rattle.paper.specs.Fields.{endKind, endOf, endField}
+use Rattle.paper.specs.Path.{End}
+use Rattle.paper.proofs.Lists.{all-drop}
+use Rattle.words.proofs.Number.{number-one}
+use Rattle.path.specs.Parsed.{placed, commitmentOf, noEnd, endedOf, endedAt}
+use Rattle.path.specs.declared.End.the-variants.{This, Other, Off, Nothing}
+use Rattle.path.specs.declared.ends.Ended.{Ended}
+use Rattle.path.proofs.Flat.{Flat, flat-yes, flat-short, flat-no, within-flat}
+use Rattle.path.proofs.Fields.{this-flat, other-flat, prefixGood, off-flat, none-flat}
+
+-- the elements of a slice of bytes are bytes
+pub bytewise : (s : Bytes) → ((i : ℕ) → Fits w8 (getD s i 0)) → Bytewise s
+bytewise [] h = tt
+bytewise (b ∷ s) h = (h 0 .fits, bytewise s (λ i. h (suc i)))
+
+-- ---- an end of a fixed size
+
+module _ (a : Layout End) {n : ℕ} {ok : Bytes → Bool} {value : Bytes → End} (f : Flat (a .read) n ok value) (s : Bytes) (at fields : ℕ) (w : Bytewise s) where
+  pub ended-yes : at + n ≤ length s → ok (drop at s) ≡ true
+      → endedAt a s at fields ≡ record { good = true; «end» = placed fields (value (drop at s)); commitment = commitmentOf (value (drop at s)); next = at + n }
+  ended-yes h e =
+      let k : n ≤ length (drop at s) = omega (arith, length-drop at s) in
+      let z : length s - length (drop n (drop at s)) ≡ at + n = omega (arith, length-drop n (drop at s), length-drop at s) in
+      rw (flat-yes f (drop at s) (all-drop _ at s w) k e, z)
+
+  pub ended-short : at ≤ length s → length s - at < n → endedAt a s at fields ≡ noEnd
+  ended-short l h = rw (flat-short f (drop at s) (all-drop _ at s w) (omega (arith, length-drop at s)))
+
+  pub ended-no : ok (drop at s) ≡ false → endedAt a s at fields ≡ noEnd
+  ended-no e = rw (flat-no f (drop at s) (all-drop _ at s w) e)
+
+-- ---- an end by its kind
+
+module _ (m : ℕ) (s : Bytes) (at : ℕ) (w : Bytewise s) where
+  pub kind-missing : length s ≤ at → endedAt (endField m) s at (at + 1) ≡ noEnd
+  unfolding led
+  kind-missing h = rw (flat-short (within-flat 1 0 3) (drop at s) (all-drop _ at s w) (omega (arith, length-drop at s)))
+
+  pub kind-good : (k : ℕ) → at < length s → getD s at 0 ≡ k → k ≤ 3 → endedAt (endField m) s at (at + 1) ≡ endedAt (endOf m k) s (at + 1) (at + 1)
+  unfolding led
+  kind-good k h e l =
+      let i = number-one s at h ∙ e in
+      rw (flat-yes (within-flat 1 0 3) (drop at s) (all-drop _ at s w) (omega (arith, length-drop at s)) (rw (i, le-leb 0 k (omega arith), le-leb k 3 l)), i, drop-drop 1 at s)
+
+  pub kind-bad : at < length s → 3 < getD s at 0 → endedAt (endField m) s at (at + 1) ≡ noEnd
+  unfolding led
+  kind-bad h l =
+      let k = getD s at 0 in
+      let i = number-one s at h in
+      rw (flat-no (within-flat 1 0 3) (drop at s) (all-drop _ at s w) (rw (i, le-leb 0 k (omega arith), lt-leb k 3 l)))

@@ -1,0 +1,82 @@
+-- `path::form::rises`: the lengths passed were in their ranges, so the rest decides.
+use borrow.Author.Needs.{needs}
+use borrow.Author.Tests.{ltb-true, ltb-false}
+use native.Mathlib.Omega.{arith}
+use mathlib.Core.Path.{_≡_, refl, sym, _∙_}
+use mathlib.Core.Logic.{inl, inr, ⊎-elim}
+use Prim.Native.Nat.{_-_, _≤_}
+use lib.ListN.{drop}
+use Rattle.path.specs.Places.{stepsIn, ranged}
+use Rattle.path.proofs.Steps.{rises-end, rises-stop, rises-on}
+use Rattle.path.proofs.form.rises.Statement.{statement}
+use Rattle.path.proofs.form.rises.Tie as tie
+
+abbrev Inv-loop : tie.InvT-loop
+Inv-loop s at m low₀ high₀ i₀ low high i = (i ≤ m) × (high ≤ 255) × (ranged 0 0 (stepsIn m (drop at s)) ≡ ranged low high (drop i (stepsIn m (drop at s))))
+
+abbrev μ-loop : tie.MeasureT-loop
+μ-loop s at m low₀ high₀ i₀ low high i = m - i
+
+loop-holds : tie.Need-loop-holds Inv-loop μ-loop
+loop-holds c = (omega arith, omega arith, refl)
+
+mul-read16 : tie.Need-mul-read16 Inv-loop μ-loop
+mul-read16 c = search needs
+
+add-read16 : tie.Need-add-read16 Inv-loop μ-loop
+add-read16 c = search needs
+
+read16-requires : tie.Need-read16-requires Inv-loop μ-loop
+read16-requires c κs = search needs
+
+returns : tie.Need-returns Inv-loop μ-loop
+returns c =
+    let turn = c .before in
+    let at = turn .before .before in
+    let a = at .before .before .args in
+    sym (at .loop .inv .2
+    ∙ rises-stop (a .s .now) (a .at) (at .loop .i) (a .m) (at .loop .low) (at .loop .high) (turn .read16 .result) (search needs) (turn .read16 .ensures)
+    (⊎-elim (λ w. inl (omega arith)) (λ w. inr (omega (arith, ltb-true))) (c .if1 .came)))
+
+add-low : tie.Need-add-low Inv-loop μ-loop
+add-low c = omega (arith, ltb-false)
+
+add-i : tie.Need-add-i Inv-loop μ-loop
+add-i c = search needs
+
+loop-less : tie.Need-loop-less Inv-loop μ-loop
+loop-less c = search needs
+
+loop-again : tie.Need-loop-again Inv-loop μ-loop
+loop-again c =
+    let turn = c .before .before in
+    let at = turn .before .before in
+    let a = at .before .before .args in (
+      omega arith,
+      omega arith,
+      at .loop .inv .2
+          ∙ rises-on (a .s .now) (a .at) (at .loop .i) (a .m) (at .loop .low) (at .loop .high) (turn .read16 .result) (search needs) (turn .read16 .ensures) (search needs) (omega (arith, ltb-false)),
+    )
+
+returns-2 : tie.Need-returns-2 Inv-loop μ-loop
+returns-2 c =
+    let at = c .before in
+    let a = at .before .before .args in
+    sym (at .loop .inv .2 ∙ rises-end (a .s .now) (a .at) (at .loop .i) (a .m) (at .loop .low) (at .loop .high) (search needs))
+
+pub rises-spec : {M : Type 1} → statement M
+rises-spec =
+    tie.close
+    (tie.spec
+    Inv-loop
+    μ-loop
+    loop-holds
+    mul-read16
+    add-read16
+    read16-requires
+    returns
+    add-low
+    add-i
+    loop-less
+    loop-again
+    returns-2)

@@ -1,0 +1,72 @@
+// The form of a path: "count m (2 bytes, 1 to 256); m steps of prefix length (2) and sibling digest (32); end kind (1)".
+use crate::End;
+use crate::Path;
+use crate::ends::end_at;
+use words::read16;
+ghost use mathlib.Core.Path.{_≡_};
+ghost use Prim.Native.Nat.{_+_, _*_, _≤_};
+ghost use lib.ListN.{length, drop};
+ghost use Rattle.path.specs.Parsed.{noPath, pathAt};
+ghost use Rattle.path.specs.Places.{stepsIn, ranged};
+
+fn no_path() -> Path
+    ensures { λ r. ⌜ r ≡ noPath ⌝ }
+{
+    Path {
+        good: false,
+        steps: 0,
+        count: 0,
+        end: End::Nothing,
+        commitment: [0u8; 32],
+        next: 0,
+    }
+}
+
+// "Lengths begin at 0, rise strictly and are at most 255": each is from `low` to `high`.
+fn rises(s: &[u8], at: usize, m: usize) -> bool
+    requires { ⌜ at + 34 * m ≤ length (now s) ⌝ }
+    ensures { λ r. ⌜ r ≡ ranged 0 0 (stepsIn m (drop at (now (s .entry)))) ⌝ }
+{
+    let mut low = 0;
+    let mut high = 0;
+    for i in 0..m {
+        let length = read16(s, at + 34 * i);
+        if length < low || high < length {
+            return false;
+        }
+        low = length + 1;
+        high = 255;
+    }
+    true
+}
+
+// The path that stands in `s` from `at` on.
+pub fn parse(s: &[u8], at: usize) -> Path
+    ensures { λ r. ⌜ r ≡ pathAt (now (s .entry)) at ⌝ }
+{
+    if s.len() < 2 || s.len() - 2 < at {
+        return no_path();
+    }
+    let count = read16(s, at) as usize;
+    let steps = at + 2;
+    if count < 1 || 256 < count || s.len() - steps < 34 * count {
+        return no_path();
+    }
+    if !rises(s, steps, count) {
+        return no_path();
+    }
+    let ended = end_at(s, steps + 34 * count, count);
+    if !ended.good {
+        return no_path();
+    }
+    let end = ended.end;
+    let commitment = ended.commitment;
+    Path {
+        good: true,
+        steps,
+        count,
+        end,
+        commitment,
+        next: ended.next,
+    }
+}
