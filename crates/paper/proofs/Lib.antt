@@ -22,6 +22,7 @@ pub mod Facts
 pub mod Way
 pub mod Fit
 pub mod Honest
+pub mod Records
 pub mod Arrow
 pub mod Rows
 pub mod Marker

@@ -151,6 +151,19 @@ module _ {A : Type 0} where
   unfolding keep
   keep-one t a = refl
 
+  -- two tests keep the same in either order
+  pub keep-keep : (t u : A → Bool) (l : List A) → keep t (keep u l) ≡ keep u (keep t l)
+  unfolding keep
+  keep-keep t u [] = refl
+  keep-keep t u (a ∷ l) = by (t a) refl (u a) refl (keep-keep t u l)
+    where
+      by : (b : Bool) → t a ≡ b → (c : Bool) → u a ≡ c → keep t (keep u l) ≡ keep u (keep t l)
+          → keep t (cond c (a ∷ keep u l) (keep u l)) ≡ keep u (cond b (a ∷ keep t l) (keep t l))
+      by true p true q e = rw (p, q) (ap (λ r. a ∷ r) e)
+      by true p false q e = rw q e
+      by false p true q e = rw p e
+      by false p false q e = e
+
   pub keep-in : (t : A → Bool) (l : List A) (a : A) → a ∈ keep t l → a ∈ l
   keep-in t l a m = all-in (λ b. b ∈ l) (keep t l) (keep-all (λ b. b ∈ l) t l (in-all _ l (λ b k. k))) a m
 
