@@ -7,7 +7,7 @@ use mathlib.Core.List.{List, [], _∷_, _++_, map}
 use Prim.Native.Nat.{ℕ, zero, suc, _+_, _-_, _^_, _<_, _≤_, min}
 use native.Mathlib.Omega.{arith}
 use lib.Dec.{leb, ltb, eqb}
-use lib.ListN.{length, getD, length-map, List·getD-append}
+use lib.ListN.{length, getD}
 use borrow.Author.Tests.{leb-true, ltb-true, eqb-true}
 use Rattle.fips.specs.Sha256.{sha256}
 use Rattle.paper.specs.Lists.{_∈_, All, every, upFrom}
@@ -22,10 +22,10 @@ use Rattle.paper.specs.Layout.{got, parse, led, times, view, seq}
 use Rattle.paper.specs.Fields.{pathField}
 use Rattle.paper.specs.Shows.{Place, inAll, inOld, asMarker, Asked, present, missing, Item, Proof, labelAt, epochAt, commitmentAt, proofStrings, proofTests, pathTests, pathStrings, Terms}
 use Rattle.paper.specs.Lookup.{lookupAsked, lookupKeys, lookupField, lookupTerms, lookupStrings, lookupGives, checkLookup, acceptedKey}
-use Rattle.paper.specs.History.{markersBy, markersMissing, historyAsked, historyField, historyTerms, historyStrings, checkHistory}
+use Rattle.paper.specs.History.{historyAsked, historyField, historyTerms, historyStrings, checkHistory}
 use Rattle.paper.specs.Audit.{AuditRecord, unchanged, opened, fresh, Audit, auditField, auditRecordField, recordOf, listField, olds, news, inOrder, Which, ofAll, ofOld, recordRule, commitmentIn, auditTests, auditStrings, listStrings}
 use Rattle.paper.specs.Arrow.{Told, toldAt}
-use Rattle.paper.proofs.Lists.{and-left, and-right, all-left, all-right, all-in, all-map, all-getD, every-all, in-left, in-right, in-map, in-upFrom, getD-upFrom, upFrom-length, lt-append}
+use Rattle.paper.proofs.Lists.{and-left, and-right, all-left, all-right, all-in, all-map, all-getD, every-all}
 use Rattle.paper.proofs.Bytes.{same-eq}
 use Rattle.paper.proofs.Strings.{HeadSized}
 use Rattle.paper.proofs.Verdicts.{Hold}
@@ -41,6 +41,7 @@ use Rattle.paper.proofs.Collide.{OneToOne, hashedIn}
 use Rattle.paper.proofs.Sizes.{root-sized, news-sized}
 use Rattle.paper.proofs.Shown.{Within, inside, AllShow, Shows, paths-show, show-in, show-at}
 use Rattle.paper.proofs.Agree.{Registered, LookedUp, nobody, somebody, Chronicle}
+use Rattle.paper.proofs.Asked.{version-asked, old-asked, last-asked, gap-asked, markers-asked}
 use Rattle.paper.proofs.Accepted.{LookupTold, HistoryTold, AuditTold}
 use Rattle.paper.proofs.KeyPart.{key-accepted}
 
@@ -117,15 +118,6 @@ module _ (lab : Labelling) (sized : Sized lab) (name : Bytes) (U : List Bytes) (
 
   -- ---- histories
 
-  markers-by : (T : ℕ) → 0 < T → markersBy T ≡ suc (min 9 (log2 T))
-  markers-by zero h = absurd (omega arith)
-  markers-by (suc T) h = refl
-
-  marker-asked : (a T j : ℕ) → 0 < T → a ≤ j → j ≤ min 9 (log2 T) → missing (asMarker j) ∈ markersMissing a T
-  marker-asked a T j z l m =
-      let e = markers-by T z in
-      in-map (λ j. missing (asMarker j)) (upFrom a (markersBy T - a)) j (in-upFrom a (markersBy T - a) j l (omega arith))
-
   abbrev noPath : Path
   noPath = record { steps = []; end = none }
 
@@ -136,17 +128,6 @@ module _ (lab : Labelling) (sized : Sized lab) (name : Bytes) (U : List Bytes) (
 
     abbrev asked : List Asked
     asked = historyAsked (p .number) (h .epoch)
-
-    -- version i + 1 is asked in its place
-    version-asked : (n T j : ℕ) → j < n → (getD (historyAsked n T) j (missing (inAll 0)) ≡ present (inAll (suc j))) × (j < length (historyAsked n T))
-    version-asked zero T j l = absurd (omega arith)
-    version-asked (suc m) T j l =
-        let A = map (λ i. present (inAll i)) (upFrom 1 (suc m)) in
-        let n : length A ≡ suc m = length-map (upFrom 1 (suc m)) (λ i. present (inAll i)) ∙ upFrom-length 1 (suc m) in
-        let e : 1 + j ≡ suc j = omega arith in (
-          List·getD-append A _ (missing (inAll 0)) j (omega arith) ∙ getD-upFrom (λ i. present (inAll i)) (missing (inAll 0)) 1 (suc m) j l ∙ ap (λ i. present (inAll i)) e,
-          lt-append A _ j (omega arith),
-        )
 
     version-shown : (j : ℕ) → j < p .number → Shows lab sized name U f true h (historyTerms p) (inAll (suc j)) (getD (p .paths) j noPath)
     version-shown j l =
@@ -163,31 +144,6 @@ module _ (lab : Labelling) (sized : Sized lab) (name : Bytes) (U : List Bytes) (
           subst (λ i. epochAt p i < epochAt p (suc j)) e (ltb-true _ _ (and-left _ _ q)),
           leb-true _ _ (and-right (ltb (epochAt p (suc j - 1)) (epochAt p (suc j))) _ q),
         )
-
-    old-asked : (n T i : ℕ) → 0 < i → i < n → present (inOld i) ∈ historyAsked n T
-    old-asked zero T i z l = absurd (omega arith)
-    old-asked (suc m) T i z l =
-        in-right _ (map (λ i. present (inAll i)) (upFrom 1 (suc m))) _ (in-left _ (map (λ i. present (inOld i)) (upFrom 1 m)) _
-        (in-map (λ i. present (inOld i)) (upFrom 1 m) i (in-upFrom 1 m i z (omega arith))))
-
-    last-asked : (n T : ℕ) → 0 < n → missing (inOld n) ∈ historyAsked n T
-    last-asked zero T z = absurd (omega arith)
-    last-asked (suc m) T z = in-right _ (map (λ i. present (inAll i)) (upFrom 1 (suc m))) _ (in-right _ (map (λ i. present (inOld i)) (upFrom 1 m)) _ (inl refl))
-
-    gap-asked : (n T i : ℕ) → 0 < n → n < i → i < 2 ^ suc (log2 n) → missing (inAll i) ∈ historyAsked n T
-    gap-asked zero T i z l k = absurd (omega arith)
-    gap-asked (suc m) T i z l k =
-        let G = upFrom (suc (suc m)) (2 ^ suc (log2 (suc m)) - suc (suc m)) in
-        in-right _ (map (λ i. present (inAll i)) (upFrom 1 (suc m))) _ (in-right _ (map (λ i. present (inOld i)) (upFrom 1 m)) _
-        (inr (in-left _ (map (λ i. missing (inAll i)) G) _ (in-map (λ i. missing (inAll i)) G i (in-upFrom (suc (suc m)) _ i l (omega arith))))))
-
-    markers-asked : (n T j : ℕ) → 0 < T → (0 < n → log2 n < j) → j ≤ min 9 (log2 T) → missing (asMarker j) ∈ historyAsked n T
-    markers-asked zero T j z l k = marker-asked 0 T j z (omega arith) k
-    markers-asked (suc m) T j z l k =
-        let G = upFrom (suc (suc m)) (2 ^ suc (log2 (suc m)) - suc (suc m)) in
-        in-right _ (map (λ i. present (inAll i)) (upFrom 1 (suc m))) _ (in-right _ (map (λ i. present (inOld i)) (upFrom 1 m)) _
-        (inr (in-right _ (map (λ i. missing (inAll i)) G) _ (in-right _ (map (λ j. present (asMarker j)) (upFrom 0 (suc (log2 (suc m))))) _
-        (marker-asked (suc (log2 (suc m))) T j z (l (omega arith)) k)))))
 
     shown : (a : Asked) → a ∈ asked → (x : Path) × Shows lab sized name U f (a .there) h (historyTerms p) (a .place) x
     shown a m = show-in lab sized name U f h (historyTerms p) asked (p .paths) s a m

@@ -18,11 +18,14 @@ pub mod Shown
 pub mod Agree
 pub mod Accepted
 pub mod KeyPart
+pub mod Asked
 pub mod Facts
 pub mod Way
 pub mod Fit
 pub mod Honest
 pub mod Records
+pub mod Leaves
+pub mod Complete
 pub mod Arrow
 pub mod Rows
 pub mod Marker

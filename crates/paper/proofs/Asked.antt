@@ -1,0 +1,57 @@
+-- What a history is asked to show, and where in its order. Assumes nothing.
+use mathlib.Core.Path.{_≡_, refl, ap, _∙_}
+use mathlib.Core.Logic.{inl, inr}
+use mathlib.Core.List.{List, [], _∷_, _++_, map}
+use Prim.Native.Nat.{ℕ, zero, suc, _+_, _-_, _^_, _<_, _≤_, min}
+use native.Mathlib.Omega.{arith}
+use lib.ListN.{length, getD, length-map, List·getD-append}
+use Rattle.paper.specs.Lists.{_∈_, upFrom}
+use Rattle.paper.specs.Bits.{log2}
+use Rattle.paper.specs.Shows.{inAll, inOld, asMarker, present, missing}
+use Rattle.paper.specs.History.{markersBy, markersMissing, historyAsked}
+use Rattle.paper.proofs.Lists.{in-left, in-right, in-map, in-upFrom, getD-upFrom, upFrom-length, lt-append}
+
+markers-by : (T : ℕ) → 0 < T → markersBy T ≡ suc (min 9 (log2 T))
+markers-by zero h = absurd (omega arith)
+markers-by (suc T) h = refl
+
+marker-asked : (a T j : ℕ) → 0 < T → a ≤ j → j ≤ min 9 (log2 T) → missing (asMarker j) ∈ markersMissing a T
+marker-asked a T j z l m =
+    let e = markers-by T z in
+    in-map (λ j. missing (asMarker j)) (upFrom a (markersBy T - a)) j (in-upFrom a (markersBy T - a) j l (omega arith))
+
+-- version i + 1 is asked in its place
+pub version-asked : (n T j : ℕ) → j < n → (getD (historyAsked n T) j (missing (inAll 0)) ≡ present (inAll (suc j))) × (j < length (historyAsked n T))
+version-asked zero T j l = absurd (omega arith)
+version-asked (suc m) T j l =
+    let A = map (λ i. present (inAll i)) (upFrom 1 (suc m)) in
+    let n : length A ≡ suc m = length-map (upFrom 1 (suc m)) (λ i. present (inAll i)) ∙ upFrom-length 1 (suc m) in
+    let e : 1 + j ≡ suc j = omega arith in (
+      List·getD-append A _ (missing (inAll 0)) j (omega arith) ∙ getD-upFrom (λ i. present (inAll i)) (missing (inAll 0)) 1 (suc m) j l ∙ ap (λ i. present (inAll i)) e,
+      lt-append A _ j (omega arith),
+    )
+
+pub old-asked : (n T i : ℕ) → 0 < i → i < n → present (inOld i) ∈ historyAsked n T
+old-asked zero T i z l = absurd (omega arith)
+old-asked (suc m) T i z l =
+    in-right _ (map (λ i. present (inAll i)) (upFrom 1 (suc m))) _ (in-left _ (map (λ i. present (inOld i)) (upFrom 1 m)) _
+    (in-map (λ i. present (inOld i)) (upFrom 1 m) i (in-upFrom 1 m i z (omega arith))))
+
+pub last-asked : (n T : ℕ) → 0 < n → missing (inOld n) ∈ historyAsked n T
+last-asked zero T z = absurd (omega arith)
+last-asked (suc m) T z = in-right _ (map (λ i. present (inAll i)) (upFrom 1 (suc m))) _ (in-right _ (map (λ i. present (inOld i)) (upFrom 1 m)) _ (inl refl))
+
+pub gap-asked : (n T i : ℕ) → 0 < n → n < i → i < 2 ^ suc (log2 n) → missing (inAll i) ∈ historyAsked n T
+gap-asked zero T i z l k = absurd (omega arith)
+gap-asked (suc m) T i z l k =
+    let G = upFrom (suc (suc m)) (2 ^ suc (log2 (suc m)) - suc (suc m)) in
+    in-right _ (map (λ i. present (inAll i)) (upFrom 1 (suc m))) _ (in-right _ (map (λ i. present (inOld i)) (upFrom 1 m)) _
+    (inr (in-left _ (map (λ i. missing (inAll i)) G) _ (in-map (λ i. missing (inAll i)) G i (in-upFrom (suc (suc m)) _ i l (omega arith))))))
+
+pub markers-asked : (n T j : ℕ) → 0 < T → (0 < n → log2 n < j) → j ≤ min 9 (log2 T) → missing (asMarker j) ∈ historyAsked n T
+markers-asked zero T j z l k = marker-asked 0 T j z (omega arith) k
+markers-asked (suc m) T j z l k =
+    let G = upFrom (suc (suc m)) (2 ^ suc (log2 (suc m)) - suc (suc m)) in
+    in-right _ (map (λ i. present (inAll i)) (upFrom 1 (suc m))) _ (in-right _ (map (λ i. present (inOld i)) (upFrom 1 m)) _
+    (inr (in-right _ (map (λ i. missing (inAll i)) G) _ (in-right _ (map (λ j. present (asMarker j)) (upFrom 0 (suc (log2 (suc m))))) _
+    (marker-asked (suc (log2 (suc m))) T j z (l (omega arith)) k)))))
