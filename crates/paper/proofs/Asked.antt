@@ -1,15 +1,15 @@
 -- What a history is asked to show, and where in its order. Assumes nothing.
-use mathlib.Core.Path.{_≡_, refl, ap, _∙_}
-use mathlib.Core.Logic.{inl, inr}
+use mathlib.Core.Path.{_≡_, refl, sym, ap, _∙_, subst}
+use mathlib.Core.Logic.{inl, inr, ⊎-elim}
 use mathlib.Core.List.{List, [], _∷_, _++_, map}
 use Prim.Native.Nat.{ℕ, zero, suc, _+_, _-_, _^_, _<_, _≤_, min}
 use native.Mathlib.Omega.{arith}
 use lib.ListN.{length, getD, length-map, List·getD-append}
 use Rattle.paper.specs.Lists.{_∈_, upFrom}
 use Rattle.paper.specs.Bits.{log2}
-use Rattle.paper.specs.Shows.{inAll, inOld, asMarker, present, missing}
+use Rattle.paper.specs.Shows.{Place, inAll, inOld, asMarker, Asked, present, missing}
 use Rattle.paper.specs.History.{markersBy, markersMissing, historyAsked}
-use Rattle.paper.proofs.Lists.{in-left, in-right, in-map, in-upFrom, getD-upFrom, upFrom-length, lt-append}
+use Rattle.paper.proofs.Lists.{in-left, in-right, in-append, in-map, map-in, in-upFrom, upFrom-in, getD-upFrom, upFrom-length, lt-append}
 
 markers-by : (T : ℕ) → 0 < T → markersBy T ≡ suc (min 9 (log2 T))
 markers-by zero h = absurd (omega arith)
@@ -55,3 +55,35 @@ markers-asked (suc m) T j z l k =
     in-right _ (map (λ i. present (inAll i)) (upFrom 1 (suc m))) _ (in-right _ (map (λ i. present (inOld i)) (upFrom 1 m)) _
     (inr (in-right _ (map (λ i. missing (inAll i)) G) _ (in-right _ (map (λ j. present (asMarker j)) (upFrom 0 (suc (log2 (suc m))))) _
     (marker-asked (suc (log2 (suc m))) T j z (l (omega arith)) k)))))
+
+-- and nothing else is asked: versions, replaced versions and markers that are there, and what is not there
+pub data Only (n : ℕ) : Asked → Type 0 where
+  a-version : (j : ℕ) → j < n → Only n (present (inAll (suc j)))
+  an-old : (i : ℕ) → 0 < i → i < n → Only n (present (inOld i))
+  a-marker : (j : ℕ) → 0 < n → j ≤ log2 n → Only n (present (asMarker j))
+  not-there : (x : Place) → Only n (missing x)
+
+only-from : (n : ℕ) (f : ℕ → Asked) (a k : ℕ) → ((i : ℕ) → a ≤ i → i < a + k → Only n (f i)) → (b : Asked) → b ∈ map f (upFrom a k) → Only n b
+only-from n f a k h b m =
+    let (i, j, e) = map-in f (upFrom a k) b m in
+    let (l, u) = upFrom-in a k i j in
+    subst (Only n) (sym e) (h i l u)
+
+pub asked-only : (n T : ℕ) (a : Asked) → a ∈ historyAsked n T → Only n a
+asked-only zero T a m = only-from zero (λ j. missing (asMarker j)) 0 (markersBy T - 0) (λ i l u. not-there (asMarker i)) a m
+asked-only (suc m) T a k =
+    ⊎-elim (only-from (suc m) (λ i. present (inAll i)) 1 (suc m) version-only a)
+    (λ k. ⊎-elim (only-from (suc m) (λ i. present (inOld i)) 1 m (λ i l u. an-old i l (omega arith)) a)
+    (λ k. ⊎-elim (λ e. subst (Only (suc m)) (sym e) (not-there (inOld (suc m))))
+    (λ k. ⊎-elim (only-from (suc m) (λ i. missing (inAll i)) (suc (suc m)) _ (λ i l u. not-there (inAll i)) a)
+    (λ k. ⊎-elim (only-from (suc m) (λ j. present (asMarker j)) 0 _ (λ j l u. a-marker j (omega arith) (omega arith)) a)
+    (only-from (suc m) (λ j. missing (asMarker j)) _ _ (λ j l u. not-there (asMarker j)) a)
+    (in-append (map (λ j. present (asMarker j)) (upFrom 0 (suc (log2 (suc m))))) _ a k))
+    (in-append (map (λ i. missing (inAll i)) (upFrom (suc (suc m)) (2 ^ suc (log2 (suc m)) - suc (suc m)))) _ a k))
+    k)
+    (in-append (map (λ i. present (inOld i)) (upFrom 1 m)) _ a k))
+    (in-append (map (λ i. present (inAll i)) (upFrom 1 (suc m))) _ a k)
+  where
+    version-only : (i : ℕ) → 1 ≤ i → i < 1 + suc m → Only (suc m) (present (inAll i))
+    version-only zero l u = absurd (omega arith)
+    version-only (suc j) l u = a-version j (omega arith)

@@ -205,3 +205,20 @@ pub upFrom-snoc : (a k : ℕ) → upFrom a (suc k) ≡ upFrom a k ++ ((a + k) �
 unfolding upFrom
 upFrom-snoc a zero = let e : a ≡ a + 0 = omega arith in ap (λ i. i ∷ []) e
 upFrom-snoc a (suc k) = let e : suc a + k ≡ a + suc k = omega arith in ap (λ l. a ∷ l) (upFrom-snoc (suc a) k ∙ ap (λ i. upFrom (suc a) k ++ (i ∷ [])) e)
+
+-- what is in a list of f's is f of a member
+pub map-in : {A B : Type 0} (f : A → B) (l : List A) (b : B) → b ∈ map f l → (a : A) × (a ∈ l) × (b ≡ f a)
+map-in f (x ∷ l) b (inl e) = (x, inl refl, e)
+map-in f (x ∷ l) b (inr m) = let (a, k, e) = map-in f l b m in (a, inr k, e)
+
+pub upFrom-in : (a k i : ℕ) → i ∈ upFrom a k → (a ≤ i) × (i < a + k)
+unfolding upFrom
+upFrom-in a zero i m = absurd m
+upFrom-in a (suc k) i (inl e) = (omega arith, omega arith)
+upFrom-in a (suc k) i (inr m) = let (l, h) = upFrom-in (suc a) k i m in (omega arith, omega arith)
+
+-- f of the i-th member
+pub getD-map-at : {A B : Type 0} (f : A → B) (l : List A) (a : A) (b : B) (i : ℕ) → i < length l → getD (map f l) i b ≡ f (getD l i a)
+getD-map-at f [] a b i h = absurd (omega arith)
+getD-map-at f (x ∷ l) a b zero h = refl
+getD-map-at f (x ∷ l) a b (suc i) h = getD-map-at f l a b i (omega arith)
