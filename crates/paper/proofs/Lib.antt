@@ -26,6 +26,7 @@ pub mod Honest
 pub mod Records
 pub mod Leaves
 pub mod Complete
+pub mod Rebuild
 pub mod Arrow
 pub mod Rows
 pub mod Marker

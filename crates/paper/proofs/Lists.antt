@@ -151,6 +151,16 @@ module _ {A : Type 0} where
   unfolding keep
   keep-one t a = refl
 
+  pub keep-every : (t : A → Bool) (l : List A) → All (λ a. t a ≡ true) l → keep t l ≡ l
+  unfolding keep
+  keep-every t [] h = refl
+  keep-every t (a ∷ l) h = rw (h .0) (ap (λ r. a ∷ r) (keep-every t l (h .1)))
+
+  pub keep-none : (t : A → Bool) (l : List A) → All (λ a. t a ≡ false) l → keep t l ≡ []
+  unfolding keep
+  keep-none t [] h = refl
+  keep-none t (a ∷ l) h = rw (h .0) (keep-none t l (h .1))
+
   -- two tests keep the same in either order
   pub keep-keep : (t u : A → Bool) (l : List A) → keep t (keep u l) ≡ keep u (keep t l)
   unfolding keep
