@@ -18,7 +18,7 @@ use Rattle.paper.specs.Path as P
 use Rattle.paper.specs.Path.{Step, End, this, other, off, none, Path, sameBits, lastLength, endAt, waySteps, wayEnd, way, pathRoot}
 use Rattle.paper.specs.Fields.{riseFrom, rise, pathField, stepField}
 use Rattle.paper.specs.Table.{holds, distinct}
-use Rattle.paper.proofs.Lists.{all-in, in-all, all-left, all-right, and-left, and-right, not-both}
+use Rattle.paper.proofs.Lists.{all-in, in-all, all-left, all-right, and-left, and-right, or-left, or-right, not-both}
 use Rattle.paper.proofs.Bits.{pfx-nil, pfx-refl, pfx-full, pfx-length, length-snoc, pfx-bit}
 use Rattle.paper.proofs.Tree.{Free, Apart, below-none, side-all, side-below, side-in, in-side, side-free}
 use Rattle.paper.proofs.Walk.{sameBits-eq, eq-sameBits}
@@ -54,14 +54,6 @@ pub held-not : (L : Bits) (S : List Node) → holds L S ≡ false → All (λ x.
 unfolding holds some
 held-not L [] e = tt
 held-not L (x ∷ S) e = (λ q. not-both (eq-sameBits (key x) L q) (or-left (sameBits (key x) L) _ e), held-not L S (or-right (sameBits (key x) L) _ e))
-  where
-    or-left : (a b : Bool) → (a || b) ≡ false → a ≡ false
-    or-left true b e = e
-    or-left false b e = refl
-
-    or-right : (a b : Bool) → (a || b) ≡ false → b ≡ false
-    or-right true b e = not-both refl e
-    or-right false b e = e
 
 apart : (x y : Node) → LeafSized x → LeafSized y → ¬ (key y ≡ key x) → Apart x y
 apart x y a b n = (

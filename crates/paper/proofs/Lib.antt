@@ -27,6 +27,7 @@ pub mod Records
 pub mod Leaves
 pub mod Complete
 pub mod Rebuild
+pub mod Cut
 pub mod Arrow
 pub mod Rows
 pub mod Marker

@@ -30,6 +30,14 @@ and-right false b e = not-both e refl
 pub and-both : {a b : Bool} → a ≡ true → b ≡ true → (a && b) ≡ true
 and-both p q = rw (p, q)
 
+pub or-left : (a b : Bool) → (a || b) ≡ false → a ≡ false
+or-left true b e = e
+or-left false b e = refl
+
+pub or-right : (a b : Bool) → (a || b) ≡ false → b ≡ false
+or-right true b e = not-both refl e
+or-right false b e = e
+
 module _ {A : Type 0} where
   pub all-in : (P : A → Type 0) (l : List A) → All P l → (a : A) → a ∈ l → P a
   all-in P (b ∷ l) h a (inl e) = subst P (sym e) (h .0)
