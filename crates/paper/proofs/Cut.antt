@@ -19,7 +19,7 @@ use Rattle.paper.proofs.Order.{Before, test-before}
 use Rattle.paper.proofs.Way.{Grown, single, forked, entries, IsLeaf, grown-length}
 use Rattle.paper.proofs.Rebuild.{Beyond, build-parts, grown-below, grown-some, rebuild}
 
-news-append : (A B : List AuditRecord) → news (A ++ B) ≡ news A ++ news B
+pub news-append : (A B : List AuditRecord) → news (A ++ B) ≡ news A ++ news B
 unfolding news
 news-append [] B = refl
 news-append (unchanged m c e ∷ A) B = ap (λ l. leaf m c e ∷ l) (news-append A B)

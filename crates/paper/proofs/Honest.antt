@@ -39,12 +39,12 @@ pub record LeafSet (S : List Node) : Type 0 where
   pub free : Free S
   pub sized : All LeafSized S
 
-leaf-label : (x : Node) → LeafSized x → length (key x) ≡ 256
+pub leaf-label : (x : Node) → LeafSized x → length (key x) ≡ 256
 leaf-label (leaf m c e) s = s .0
 leaf-label (inner p l r) s = absurd s
 leaf-label nothing s = absurd s
 
-leaf-is : (x : Node) → LeafSized x → IsLeaf x
+pub leaf-is : (x : Node) → LeafSized x → IsLeaf x
 leaf-is (leaf m c e) s = tt
 leaf-is (inner p l r) s = absurd s
 leaf-is nothing s = absurd s

@@ -28,6 +28,7 @@ pub mod Leaves
 pub mod Complete
 pub mod Rebuild
 pub mod Cut
+pub mod Audited
 pub mod Arrow
 pub mod Rows
 pub mod Marker

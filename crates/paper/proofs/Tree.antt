@@ -53,7 +53,7 @@ abbrev pub Free : List Node → Type 0
 Free [] = Unit {0}
 Free (x ∷ S) = All (Apart x) S × Free S
 
-keep-free : (t : Node → Bool) (S : List Node) → Free S → Free (keep t S)
+pub keep-free : (t : Node → Bool) (S : List Node) → Free S → Free (keep t S)
 unfolding keep
 keep-free t [] h = tt
 keep-free t (x ∷ S) h = by (t x) (keep-free t S (h .1))
@@ -168,7 +168,7 @@ not-apart x y z S f e = f .0 .0 .0 (rw (only y (inl refl), ← (only z (inr (inl
     only : (w : Node) → w ∈ (y ∷ z ∷ S) → w ≡ x
     only w m = ⊎-elim (λ p. p) (λ b. absurd b) (e w .1 m)
 
-build-same : (n : ℕ) (S R : List Node) → Free S → Free R → SameSet S R → build n S ≡ build n R
+pub build-same : (n : ℕ) (S R : List Node) → Free S → Free R → SameSet S R → build n S ≡ build n R
 unfolding build
 build-same zero S R f g e = refl
 build-same (suc n) [] [] f g e = refl
