@@ -17,7 +17,7 @@ use Rattle.paper.specs.Tree.{key, digest, Tree, empty, one, fork, top, c
 use Rattle.paper.specs.Audit.{AuditRecord, unchanged, opened, fresh, recordKey, olds, news, inOrder, Which, ofAll, ofOld, commitmentIn, recordRule, auditRecordField}
 use Rattle.paper.specs.Write.{hasNew, subtrees, belowRoot}
 use Rattle.paper.proofs.Lists.{all-in, in-all, all-left, all-right, all-append, and-both, all-every, keep-in, in-keep, keep-all, keep-passes, in-append, in-left, in-right}
-use Rattle.paper.proofs.Bits.{pfx-trans, pfx-snoc, pfx-length, length-snoc, pfx-one-way}
+use Rattle.paper.proofs.Bits.{pfx-trans, pfx-snoc, pfx-length, length-snoc, pfx-one-way, starts-pfx}
 use Rattle.paper.proofs.Bytes.{same-refl}
 use Rattle.paper.proofs.Tree.{Free, Apart, SameSet, common-next, common-most, side-all, side-below, in-side, side-in, side-free, keep-free, below-none, build-same, root-same}
 use Rattle.paper.proofs.Fits.{Wide, digest-wide}
@@ -213,3 +213,111 @@ module _ (t : ℕ) (S : List Node) (set : LeafSet S) where
       by : (b : Bool) → Half b → top (build 256 (olds (subtrees t (half b)))) ≡ top (build 256 (keep (isOld t) (entries (half b))))
       by b (nobody e q) = ap (λ T. top (build 256 (olds (subtrees t T)))) q ∙ ap (λ R. top (build 256 (olds R))) no-trees ∙ ap (λ A. top (build 256 A)) (no-olds ∙ sym none-kept) ∙ sym (ap (λ T. top (build 256 (keep (isOld t) (entries T)))) q)
       by b (grown g) = match-top ([] ▹ b) _ _ (omega arith) (olds-match t ([] ▹ b) (half b) g (leaves b))
+
+  -- ---- each record
+
+  -- what holds of new leaves, of other leaves and of opened nodes holds of the records
+  cut-each : (P : Node → Type 0) (Q : AuditRecord → Type 0) → ((m : Bits) (c : Bytes) (e : ℕ) → P (leaf m c e) → e ≡ t → Q (fresh m c e))
+      → ((m : Bits) (c : Bytes) (e : ℕ) → P (leaf m c e) → ¬ (e ≡ t) → Q (unchanged m c e))
+      → ((p : Bits) (l r : Tree) → 1 ≤ length p → length p ≤ 255 → Q (opened p (digest (top l)) (digest (top r))))
+      → (q : Bits) (T : Tree) → Grown q T → 1 ≤ length q → All IsLeaf (entries T) → All P (entries T) → All Q (subtrees t T)
+  unfolding subtrees
+  cut-each P Q fr un op q T (single (leaf m c e) h k) l i a = by (eqb e t) refl
+    where
+      by : (b : Bool) → eqb e t ≡ b → All Q (cond b (fresh m c e) (unchanged m c e) ∷ [])
+      by true z = (fr m c e (a .0) (eqb-true e t z), tt)
+      by false z = (un m c e (a .0) (eqb-false e t z), tt)
+  cut-each P Q fr un op q T (single (inner p u v) h k) l i a = absurd (i .0)
+  cut-each P Q fr un op q T (single nothing h k) l i a = absurd (i .0)
+  cut-each P Q fr un op q T (forked p u v h gl gr) l i a =
+      by (hasNew t u || hasNew t v)
+      (cut-each P Q fr un op (p ▹ false) u gl (omega (arith, length-snoc p false)) (all-left IsLeaf (entries u) (entries v) i) (all-left P (entries u) (entries v) a))
+      (cut-each P Q fr un op (p ▹ true) v gr (omega (arith, length-snoc p true)) (all-right IsLeaf (entries u) (entries v) i) (all-right P (entries u) (entries v) a))
+    where
+      by : (b : Bool) → All Q (subtrees t u) → All Q (subtrees t v) → All Q (cond b (subtrees t u ++ subtrees t v) (opened p (digest (top u)) (digest (top v)) ∷ []))
+      by true x y = all-append Q (subtrees t u) (subtrees t v) x y
+      by false x y = (op p u v (omega (arith, pfx-length h)) (omega (arith, grown-length (p ▹ false) u gl, length-snoc p false)), tt)
+
+  list-each : (P : Node → Type 0) (Q : AuditRecord → Type 0) → ((m : Bits) (c : Bytes) (e : ℕ) → P (leaf m c e) → e ≡ t → Q (fresh m c e))
+      → ((m : Bits) (c : Bytes) (e : ℕ) → P (leaf m c e) → ¬ (e ≡ t) → Q (unchanged m c e))
+      → ((p : Bits) (l r : Tree) → 1 ≤ length p → length p ≤ 255 → Q (opened p (digest (top l)) (digest (top r))))
+      → All P S → All Q list
+  list-each P Q fr un op a = rw list-is (all-append Q (subtrees t (half false)) (subtrees t (half true)) (by false (which false)) (by true (which true)))
+    where
+      mine : (b : Bool) → All P (entries (half b))
+      mine b = in-all _ (entries (half b)) (λ x m. all-in P S a x (side-in ([] ▹ b) S x (build-entries 256 (side ([] ▹ b) S) x m)))
+
+      by : (b : Bool) → Half b → All Q (subtrees t (half b))
+      by b (nobody e q) = subst (λ T. All Q (subtrees t T)) (sym q) (subst (λ R. All Q R) (sym no-trees) tt)
+      by b (grown g) = cut-each P Q fr un op ([] ▹ b) (half b) g (omega arith) (leaves b) (mine b)
+
+  pub list-fits : All (auditRecordField .Fits) list
+  list-fits = list-each LeafSized (λ x. auditRecordField .Fits x)
+      (λ m c e s _. record-fit (fresh m c e) s)
+      (λ m c e s _. record-fit (unchanged m c e) s)
+      (λ p l r a b. record-fit (opened p (digest (top l)) (digest (top r))) (a, b, digest-wide _, digest-wide _))
+      (set .sized)
+
+  -- a leaf's epoch is between 1 and t, and its commitment is one of its tree's
+  abbrev pub LeafRuled : Which → Node → Type 0
+  LeafRuled w (leaf m c e) = (1 ≤ e) × (e ≤ t) × (commitmentIn w c ≡ true)
+  LeafRuled w (inner p l r) = ⊥
+  LeafRuled w nothing = ⊥
+
+  pub list-rules : (w : Which) (old : ℕ) → t ≡ suc old → All (LeafRuled w) S → every (recordRule w old t) list ≡ true
+  list-rules w old z a = all-every _ list (list-each (LeafRuled w) (λ x. recordRule w old t x ≡ true)
+      (λ m c e (l, u, k) q. let f : eqb e t ≡ true = eq-eqb e t q in and-both f k)
+      (λ m c e (l, u, k) q.
+      let f : leb 1 e ≡ true = le-leb 1 e l in
+      let g : leb e old ≡ true = le-leb e old (below e u q) in
+      and-both f (and-both g k))
+      (λ p l r x y. refl)
+      a)
+    where
+      below : (e : ℕ) → e ≤ t → ¬ (e ≡ t) → e ≤ old
+      below e u q = omega arith
+
+  -- ---- how many there are
+
+  sides-few : (p : Bits) (X : List Node) → length (side (p ▹ false) X) + length (side (p ▹ true) X) ≤ length X
+  unfolding side keep
+  sides-few p [] = omega arith
+  sides-few p (x ∷ X) = by (starts (p ▹ false) (key x)) refl (starts (p ▹ true) (key x)) refl (sides-few p X)
+    where
+      by : (b : Bool) → starts (p ▹ false) (key x) ≡ b → (c : Bool) → starts (p ▹ true) (key x) ≡ c → length (side (p ▹ false) X) + length (side (p ▹ true) X) ≤ length X
+          → length (cond b (x ∷ side (p ▹ false) X) (side (p ▹ false) X)) + length (cond c (x ∷ side (p ▹ true) X) (side (p ▹ true) X)) ≤ suc (length X)
+      by true e true f h = absurd (false≢true (pfx-one-way p false true (starts-pfx _ (key x) e) (starts-pfx _ (key x) f)))
+      by true e false f h = omega arith
+      by false e true f h = omega arith
+      by false e false f h = omega arith
+
+  entries-few : (n : ℕ) (X : List Node) → length (entries (build n X)) ≤ length X
+  unfolding build
+  entries-few zero X = omega arith
+  entries-few (suc n) [] = omega arith
+  entries-few (suc n) (x ∷ []) = omega arith
+  entries-few (suc n) (x ∷ y ∷ X) =
+      let p = common x (y ∷ X) in
+      let Z = x ∷ y ∷ X in
+      omega (
+        arith,
+        length-append (entries (build n (side (p ▹ false) Z))) (entries (build n (side (p ▹ true) Z))),
+        entries-few n (side (p ▹ false) Z),
+        entries-few n (side (p ▹ true) Z),
+        sides-few p Z,
+      )
+
+  pub list-few : length list ≤ length S
+  list-few =
+      omega (
+        arith,
+        ap length list-is,
+        length-append (subtrees t (half false)) (subtrees t (half true)),
+        by false (which false),
+        by true (which true),
+        sides-few [] S,
+      )
+    where
+      by : (b : Bool) → Half b → length (subtrees t (half b)) ≤ length (side ([] ▹ b) S)
+      by b (nobody e q) = omega (arith, ap (λ T. length (subtrees t T)) q, ap length no-trees)
+      by b (grown g) = omega (arith, cut-few t ([] ▹ b) (half b) g, entries-few 256 (side ([] ▹ b) S))
