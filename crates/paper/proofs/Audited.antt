@@ -80,6 +80,12 @@ olds-keys q (fresh m c e ∷ R) h = olds-keys q R (h .1)
 
 -- ---- the list of a tree
 
+-- a leaf's epoch is between 1 and t, and its commitment is one of its tree's
+abbrev pub LeafRuled : ℕ → Which → Node → Type 0
+LeafRuled t w (leaf m c e) = (1 ≤ e) × (e ≤ t) × (commitmentIn w c ≡ true)
+LeafRuled t w (inner p l r) = ⊥
+LeafRuled t w nothing = ⊥
+
 module _ (t : ℕ) (S : List Node) (set : LeafSet S) where
   abbrev half : Bool → Tree
   half b = build 256 (side ([] ▹ b) S)
@@ -258,14 +264,8 @@ module _ (t : ℕ) (S : List Node) (set : LeafSet S) where
       (λ p l r a b. record-fit (opened p (digest (top l)) (digest (top r))) (a, b, digest-wide _, digest-wide _))
       (set .sized)
 
-  -- a leaf's epoch is between 1 and t, and its commitment is one of its tree's
-  abbrev pub LeafRuled : Which → Node → Type 0
-  LeafRuled w (leaf m c e) = (1 ≤ e) × (e ≤ t) × (commitmentIn w c ≡ true)
-  LeafRuled w (inner p l r) = ⊥
-  LeafRuled w nothing = ⊥
-
-  pub list-rules : (w : Which) (old : ℕ) → t ≡ suc old → All (LeafRuled w) S → every (recordRule w old t) list ≡ true
-  list-rules w old z a = all-every _ list (list-each (LeafRuled w) (λ x. recordRule w old t x ≡ true)
+  pub list-rules : (w : Which) (old : ℕ) → t ≡ suc old → All (LeafRuled t w) S → every (recordRule w old t) list ≡ true
+  list-rules w old z a = all-every _ list (list-each (LeafRuled t w) (λ x. recordRule w old t x ≡ true)
       (λ m c e (l, u, k) q. let f : eqb e t ≡ true = eq-eqb e t q in and-both f k)
       (λ m c e (l, u, k) q.
       let f : leb 1 e ≡ true = le-leb 1 e l in

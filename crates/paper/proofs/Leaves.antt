@@ -58,12 +58,12 @@ zeros-wide = record { size = length-replicate {A = ℕ} wide 0; bytes = zeros-by
 
 -- ---- members of a list of lists
 
-in-flat : {A B : Type 0} (f : A → List B) (l : List A) (a : A) (b : B) → a ∈ l → b ∈ f a → b ∈ flatMap f l
+pub in-flat : {A B : Type 0} (f : A → List B) (l : List A) (a : A) (b : B) → a ∈ l → b ∈ f a → b ∈ flatMap f l
 unfolding flatMap
 in-flat f (x ∷ l) a b (inl e) m = in-left b (f x) (flatMap f l) (subst (λ y. b ∈ f y) e m)
 in-flat f (x ∷ l) a b (inr k) m = in-right b (f x) (flatMap f l) (in-flat f l a b k m)
 
-all-flat : {A B : Type 0} (P : B → Type 0) (f : A → List B) (l : List A) → All (λ a. All P (f a)) l → All P (flatMap f l)
+pub all-flat : {A B : Type 0} (P : B → Type 0) (f : A → List B) (l : List A) → All (λ a. All P (f a)) l → All P (flatMap f l)
 unfolding flatMap
 all-flat P f [] h = tt
 all-flat P f (x ∷ l) h = all-append P (f x) (flatMap f l) (h .0) (all-flat P f l (h .1))
