@@ -17,6 +17,7 @@ pub mod Audit
 pub mod Table
 pub mod Publish
 pub mod Write
+pub mod Left
 pub mod Answer
 pub mod Program
 pub mod Arrow
