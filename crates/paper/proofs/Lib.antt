@@ -30,6 +30,7 @@ pub mod Rebuild
 pub mod Cut
 pub mod Audited
 pub mod AuditComplete
+pub mod Pasted
 pub mod Arrow
 pub mod Rows
 pub mod Marker
