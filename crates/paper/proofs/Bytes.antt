@@ -11,11 +11,11 @@ use lib.ListN.{length, take, drop, length-append, length-drop, take-append-drop,
 use lib.Seq.{drop-at, drop-nil}
 use lib.Pow.{pow-pos, split, high, low, areBytes}
 use lib.Dec.{T, leb, ltb, eqb}
-use borrow.Author.Tests.{eqb-true, eq-eqb, ltb-true}
+use borrow.Author.Tests.{eqb-true, eqb-false, eq-eqb, ne-eqb, ltb-true}
 use Rattle.paper.specs.Lists.{All}
 use Rattle.paper.specs.Bytes.{Bytes, Bytewise, be, number, same}
 use Rattle.paper.specs.Bits.{Bits, Pfx, toBits, fromBits, bitVal, bitsOf, pack}
-use Rattle.paper.proofs.Lists.{and-left, and-right, and-both, not-both}
+use Rattle.paper.proofs.Lists.{and-left, and-right, and-both, not-both, true-or-false}
 use Rattle.paper.proofs.Bits.{pfx-nil, pfx-cons, pfx-app, pfx-compare, pfx-full, pfx-trans}
 
 -- the library's test of bytes
@@ -29,6 +29,12 @@ bytewise (b ∷ s) h = by (ltb b 256) refl h (bytewise s)
 
 -- ---- the same string
 
+eqb-comm : (x y : ℕ) → eqb x y ≡ eqb y x
+eqb-comm x y = ⊎-elim
+    (λ e. let q = eqb-true x y e in e ∙ sym (eq-eqb y x (sym q)))
+    (λ e. e ∙ sym (ne-eqb y x (λ q. eqb-false x y e (sym q))))
+    (true-or-false (eqb x y))
+
 pub same-eq : (s t : Bytes) → same s t ≡ true → s ≡ t
 unfolding same
 same-eq [] [] e = refl
@@ -40,6 +46,13 @@ pub same-refl : (s : Bytes) → same s s ≡ true
 unfolding same
 same-refl [] = refl
 same-refl (x ∷ s) = and-both (eq-eqb x x refl) (same-refl s)
+
+pub same-comm : (s t : Bytes) → same s t ≡ same t s
+unfolding same
+same-comm [] [] = refl
+same-comm [] (y ∷ t) = refl
+same-comm (x ∷ s) [] = refl
+same-comm (x ∷ s) (y ∷ t) = ap₂ (λ a b. a && b) (eqb-comm x y) (same-comm s t)
 
 pub eq-same : {s t : Bytes} → s ≡ t → same s t ≡ true
 eq-same {s} e = rw (← e) (same-refl s)

@@ -31,6 +31,7 @@ pub mod Cut
 pub mod Audited
 pub mod AuditComplete
 pub mod Pasted
+pub mod Shape
 pub mod Arrow
 pub mod Rows
 pub mod Marker
