@@ -32,6 +32,7 @@ pub mod Audited
 pub mod AuditComplete
 pub mod Pasted
 pub mod Shape
+pub mod Kept
 pub mod Arrow
 pub mod Rows
 pub mod Marker
