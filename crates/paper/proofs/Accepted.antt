@@ -26,7 +26,7 @@ use Rattle.paper.proofs.Layouts.{Lawful, bytes-parse}
 use Rattle.paper.proofs.Proofs.{lookup-lawful, history-lawful, audit-lawful}
 
 -- nothing stands behind what is read of the whole bytes
-whole-behind : {A : Type 0} (m : Read A) (x : A) (b : ℕ) (r : Bytes) → whole m ≡ got x (b ∷ r) → ⊥
+pub whole-behind : {A : Type 0} (m : Read A) (x : A) (b : ℕ) (r : Bytes) → whole m ≡ got x (b ∷ r) → ⊥
 whole-behind (got y []) x b r e = let z : _≡_ {A = ℕ} 0 1 = cc in omega arith
 whole-behind (got y (c ∷ q)) x b r e = let z : _≡_ {A = ℕ} 0 1 = cc in omega arith
 whole-behind bad x b r e = let z : _≡_ {A = ℕ} 0 1 = cc in omega arith

@@ -87,11 +87,11 @@ unfolding headsWithin
 heads-room heads e = omega (arith, leb-true 1 (length heads / wide) (and-left _ _ (and-right (eqb (length heads % wide) 0) _ e)))
 
 -- a table of the same length is as much within bounds
-within-same : (a b : Bytes) → length a ≡ length b → headsWithin a ≡ true → headsWithin b ≡ true
+pub within-same : (a b : Bytes) → length a ≡ length b → headsWithin a ≡ true → headsWithin b ≡ true
 unfolding headsWithin
 within-same a b n e = subst (λ k. (eqb (k % wide) 0 && (leb 1 (k / wide) && leb (k / wide) headsMost)) ≡ true) n e
 
-records-same : (a b : Bytes) → length a ≡ length b → recordsWithin a ≡ true → recordsWithin b ≡ true
+pub records-same : (a b : Bytes) → length a ≡ length b → recordsWithin a ≡ true → recordsWithin b ≡ true
 unfolding recordsWithin
 records-same a b n e = subst (λ k. (eqb (k % recordSize) 0 && leb (k / recordSize) recordsMost) ≡ true) n e
 
@@ -122,7 +122,7 @@ module _ (lab : Labelling) where
   head-zero heads room zero k = ap (λ w. take w (drop 0 (pasted heads 0 (first heads)))) (sym (sha256-length _)) ∙ part-at heads 0 (first heads) room
   head-zero heads room (suc t) k = absurd (omega arith)
 
-  kept-at-start : (records heads : Bytes) → Bytewise records → Bytewise heads → recordsWithin records ≡ true → headsWithin heads ≡ true
+  pub kept-at-start : (records heads : Bytes) → Bytewise records → Bytewise heads → recordsWithin records ≡ true → headsWithin heads ≡ true
       → Kept lab records (pasted heads 0 (first heads)) (record { count = 0; epoch = 0 })
   kept-at-start records heads rb hb rw hw =
       let h = first heads in

@@ -33,6 +33,7 @@ pub mod AuditComplete
 pub mod Pasted
 pub mod Shape
 pub mod Kept
+pub mod Published
 pub mod Arrow
 pub mod Rows
 pub mod Marker
