@@ -21,7 +21,8 @@ use Rattle.paper.specs.Fields.{epochField}
 use Rattle.paper.specs.Table.{Record, Update, filledBody, filledField, nameField, recordField, updateField, recordsWithin, headsWithin, headAt, counted, headLies, inShape, byEpoch, allAt, oldAt, previousHead, headOf, headDigest, distinct}
 use Rattle.paper.specs.declared.State.{State}
 use Rattle.paper.proofs.Lists.{all-in, in-all, all-append, all-left, all-right, all-take, all-drop, and-left, and-right}
-use Rattle.paper.proofs.Bytes.{be-length}
+use Rattle.paper.proofs.Bytes.{be-length, be-bytes}
+use Rattle.paper.proofs.Leaves.{zeros-bytes}
 use Rattle.paper.proofs.Layouts.{Lawful, times-lawful, parse-bytes, bytes-parse}
 use Rattle.paper.proofs.Proofs.{record-lawful, update-lawful}
 use Rattle.paper.proofs.Fits.{Wide, digest-wide}
@@ -33,6 +34,19 @@ filled-length : (s : Bytes) → filledField .Fits s → length (filledField .byt
 unfolding led within view seq block fixed
 filled-length s f =
     omega (arith, length-append (be 1 (length s)) (s ++ zeros (64 - length s)), length-append s (zeros (64 - length s)), be-length 1 (length s), length-replicate {A = ℕ} (64 - length s) 0)
+
+filled-bytes : (s : Bytes) → filledField .Fits s → Bytewise (filledField .bytes s)
+unfolding led within view seq block fixed
+filled-bytes s f = all-append _ (be 1 (length s)) (s ++ zeros (64 - length s)) (be-bytes 1 (length s) (omega arith)) (all-append _ s (zeros (64 - length s)) (f .1 .0 .0 .1) (zeros-bytes (64 - length s)))
+
+pub record-bytewise : (r : Record) → recordField .Fits r → Bytewise (recordField .bytes r)
+unfolding view seq such within block
+record-bytewise r f =
+    let k = filledField .bytes (r .key) in
+    all-append _ (filledField .bytes (r .name)) (be 2 (r .version) ++ (be 4 (r .epoch) ++ (k ++ r .opening))) (filled-bytes (r .name) (f .0 .0 .0))
+    (all-append _ (be 2 (r .version)) (be 4 (r .epoch) ++ (k ++ r .opening)) (be-bytes 2 (r .version) (f .0 .1 .0 .2))
+    (all-append _ (be 4 (r .epoch)) (k ++ r .opening) (be-bytes 4 (r .epoch) (f .0 .1 .1 .0 .2))
+    (all-append _ k (r .opening) (filled-bytes (r .key) (f .0 .1 .1 .1 .0)) (f .0 .1 .1 .1 .1 .1))))
 
 pub record-length : (r : Record) → recordField .Fits r → length (recordField .bytes r) ≡ recordSize
 unfolding view seq such within block

@@ -49,7 +49,7 @@ record-fits r f =
       };
     }
 
-zeros-bytes : (n : ℕ) → Bytewise (zeros n)
+pub zeros-bytes : (n : ℕ) → Bytewise (zeros n)
 zeros-bytes zero = tt
 zeros-bytes (suc n) = (omega arith, zeros-bytes n)
 

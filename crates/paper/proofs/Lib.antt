@@ -34,6 +34,7 @@ pub mod Pasted
 pub mod Shape
 pub mod Kept
 pub mod Published
+pub mod Demand2
 pub mod Arrow
 pub mod Rows
 pub mod Marker

@@ -19,7 +19,7 @@ use Rattle.paper.specs.Strings.{Node, headString}
 use Rattle.paper.specs.Tree.{rootDigest}
 use Rattle.paper.specs.Labelling.{Labelling, Sized}
 use Rattle.paper.specs.Layout.{Read, got, bad, seq, times, timesBytes, view, within, parse}
-use Rattle.paper.specs.Verdict.{Test, verdict}
+use Rattle.paper.specs.Verdict.{Test, test, verdict}
 use Rattle.paper.specs.Table.{Record, Update, recordField, updateField, recordsWithin, headsWithin, headAt, counted, headLies, inShape, byEpoch, allLeaves, oldLeaves, allAt, oldAt, previousHead, headOf, headDigest, distinct}
 use Rattle.paper.specs.Publish.{Started, start, Published, newRecord, once, unpublished, appended, publishTests, publishTable, publishBatch, batchWithin, publish}
 use Rattle.paper.specs.Left.{Left, started, published}
@@ -27,7 +27,7 @@ use Rattle.paper.specs.declared.State.{State}
 use Rattle.paper.specs.declared.StartAnswer.the-variants as S
 use Rattle.paper.specs.declared.PublishAnswer.the-variants as P
 use Rattle.paper.proofs.Lists.{all-in, in-all, all-append, every-all, all-take, and-left, and-right}
-use Rattle.paper.proofs.Verdicts.{Hold, verdict-cases}
+use Rattle.paper.proofs.Verdicts.{Hold, FirstFails, verdict-cases}
 use Rattle.paper.proofs.Accepted.{whole-behind}
 use Rattle.paper.proofs.Layouts.{Lawful, times-lawful, parse-bytes, bytes-parse}
 use Rattle.paper.proofs.Proofs.{record-lawful, update-lawful}
@@ -35,7 +35,7 @@ use Rattle.paper.proofs.Fits.{Wide, digest-wide}
 use Rattle.paper.proofs.Fit.{epoch-fit}
 use Rattle.paper.proofs.Pasted.{pasted-length, part-before, part-at, part-through, pasted-bytes}
 use Rattle.paper.proofs.Shape.{by-epoch-append, published-shape, new-epochs}
-use Rattle.paper.proofs.Kept.{Kept, records-length, times-append, within-same, records-same, kept-at-start}
+use Rattle.paper.proofs.Kept.{Kept, record-bytewise, records-length, times-append, within-same, records-same, kept-at-start}
 
 module _ (lab : Labelling) (records heads : Bytes) (state : State) (kept : Kept lab records heads state) where
   abbrev rs : List Record
@@ -186,3 +186,69 @@ module _ (lab : Labelling) (records heads : Bytes) (state : State) (kept : Kept 
         same-head : (t : ℕ) {p q : Bytes} {a b c d : List Node} → p ≡ q → a ≡ b → c ≡ d
             → sha256 (headString (record { epoch = t; previous = p; all = rootDigest a; old = rootDigest c })) ≡ sha256 (headString (record { epoch = t; previous = q; all = rootDigest b; old = rootDigest d }))
         same-head t x y z = λ i. sha256 (headString (record { epoch = t; previous = x i; all = rootDigest (y i); old = rootDigest (z i) }))
+
+    clash : distinct (allAt lab next (rs ++ more us)) && distinct (oldAt lab next (rs ++ more us)) ≡ true
+    clash = h .1 .1 .1 .0
+
+    pub kept-published : Bytewise bytes → Kept lab records′ heads′ (record { count = state .count + length (more us); epoch = next })
+    kept-published b = record {
+      rs = rs ++ more us;
+      read = read-again;
+      fits = all-append _ rs (more us) (kept .fits) more-fit;
+      size = length-append rs (more us) ∙ ap (λ k. k + length (more us)) (kept .size);
+      shape = published-shape lab (state .epoch) rs (kept .shape) us (h .1 .0);
+      record-bytes = pasted-bytes records (state .count * recordSize) bytes records-room (kept .record-bytes) b;
+      head-bytes = pasted-bytes heads (next * wide) head heads-room (kept .head-bytes) (digest-wide _ .bytes);
+      records-within = records-same records records′ (sym (pasted-length records (state .count * recordSize) bytes records-room)) (kept .records-within);
+      heads-within = within-same heads heads′ (sym (pasted-length heads (next * wide) head heads-room)) (kept .heads-within);
+      room = omega (arith, room, count-more, pasted-length records (state .count * recordSize) bytes records-room);
+      lies = omega (arith, slot, pasted-length heads (next * wide) head heads-room);
+      head-is = head-kept;
+      all-distinct = λ t k. by-cases (decLe t (state .epoch))
+          (λ l. ap distinct (all-same t l) ∙ kept .all-distinct t l)
+          (λ l. let e : t ≡ next = omega arith in subst (λ t. distinct (allAt lab t (rs ++ more us)) ≡ true) (sym e) (and-left _ _ clash));
+      old-distinct = λ t k. by-cases (decLe t (state .epoch))
+          (λ l. ap distinct (old-same t l) ∙ kept .old-distinct t l)
+          (λ l. let e : t ≡ next = omega arith in subst (λ t. distinct (oldAt lab t (rs ++ more us)) ≡ true) (sym e) (and-right (distinct (allAt lab next (rs ++ more us))) _ clash));
+    }
+
+-- ---- all that start and publishings left
+
+-- the bytes of a value that fits are bytes
+fields-bytes : (rs : List Record) → All (recordField .Fits) rs → Bytewise (timesBytes (recordField .bytes) rs)
+unfolding timesBytes
+fields-bytes [] f = tt
+fields-bytes (r ∷ rs) f = all-append _ (recordField .bytes r) (timesBytes (recordField .bytes) rs) (record-bytewise r (f .0)) (fields-bytes rs (f .1))
+
+start-kept : (lab : Labelling) (records heads : Bytes) (state : State) → Bytewise records → Bytewise heads → recordsWithin records ≡ true → start lab heads .answer ≡ S.Started state
+    → Kept lab records (start lab heads .heads) state
+unfolding start
+start-kept lab records heads state rb hb w e = ⊎-elim began refused (verdict-cases no-start begun (test 1 (headsWithin heads) ∷ []))
+  where
+    no-start : ℕ → Started
+    no-start n = record { answer = S.Refused n; heads = heads }
+
+    begun : Started
+    begun = record { answer = S.Started (record { count = 0; epoch = 0 }); heads = pasted heads 0 (headDigest lab heads 0 []) }
+
+    began : Hold (test 1 (headsWithin heads) ∷ []) × (start lab heads ≡ begun) → Kept lab records (start lab heads .heads) state
+    began (h, q) =
+        let z : S.Started (record { count = 0; epoch = 0 }) ≡ S.Started state = ap (λ x. x .answer) (sym q) ∙ e in
+        let s : record { count = 0; epoch = 0 } ≡ state = cc in
+        subst (λ x. Kept lab records (x .heads) state) (sym q) (subst (Kept lab records _) s (kept-at-start lab records heads rb hb w (h .0)))
+
+    refused : (n : ℕ) × FirstFails (test 1 (headsWithin heads) ∷ []) n × (start lab heads ≡ no-start n) → Kept lab records (start lab heads .heads) state
+    refused (n, _, q) =
+        let z : S.Refused n ≡ S.Started state = ap (λ x. x .answer) (sym q) ∙ e in
+        let y : _≡_ {A = ℕ} 0 1 = cc in absurd (omega arith)
+
+pub left-kept : (lab : Labelling) {records heads : Bytes} {state : State} → Left lab records heads state → Kept lab records heads state
+unfolding times
+left-kept lab (started {state = s} records heads rb hb w e) = start-kept lab records heads s rb hb w e
+left-kept lab (published {records = records} {heads = heads} {state = state} {next = s} l batch b e) =
+    let k = left-kept lab l in
+    let x = success lab records heads state k batch s e in
+    let f = bytes-parse (times-lawful (length batch / 162) update-lawful) batch (x .us) [] b (x .read) .0 .1 in
+    let z : P.Published (record { count = state .count + length (more lab records heads state k (x .us)); epoch = suc (state .epoch) }) ≡ P.Published s = ap (λ y. y .answer) (sym (x .leaves)) ∙ e in
+    let q : record { count = state .count + length (more lab records heads state k (x .us)); epoch = suc (state .epoch) } ≡ s = cc in
+    subst (λ y. Kept lab (y .records) (y .heads) s) (sym (x .leaves)) (subst (Kept lab _ _) q (kept-published lab records heads state k (x .us) f (x .holds) (fields-bytes _ (more-fit lab records heads state k (x .us) f (x .holds)))))
