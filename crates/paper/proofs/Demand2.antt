@@ -8,24 +8,26 @@ use Prim.Native.Nat.{ℕ, zero, suc, _+_, _-_, _*_, _/_, _%_, _^_, _<_, _≤_}
 use native.Mathlib.Omega.{arith}
 use lib.Dec.{eqb, leb}
 use lib.ListN.{length, take, drop, length-drop}
-use lib.Seq.{length-take-le}
-use borrow.Author.Tests.{leb-true}
+use lib.Seq.{length-take-le, take-at}
+use borrow.Author.Tests.{leb-true, le-leb}
 use Rattle.fips.proofs.Size.{sha256-length}
 use Rattle.paper.specs.Lists.{All}
 use Rattle.paper.specs.Numbers.{wide, recordSize, recordsMost, headsMost}
-use Rattle.paper.specs.Bytes.{Bytes, Bytewise}
+use Rattle.paper.specs.Bytes.{Bytes, Bytewise, pasted}
 use Rattle.paper.specs.Labelling.{Labelling, Sized}
 use Rattle.paper.specs.Fields.{isName}
 use Rattle.paper.specs.Lookup.{lookupAsked, lookupField, lookupStrings, lookupGives, checkLookup}
 use Rattle.paper.specs.History.{historyAsked, historyField, historyStrings, checkHistory}
 use Rattle.paper.specs.Audit.{auditField, auditStrings, checkAudit}
-use Rattle.paper.specs.Table.{Record, recordsWithin, headsWithin, headAt, previousHead, headDigest, lastVersion}
-use Rattle.paper.specs.Write.{versionsBy, unclashed, lookupProof, historyProof, auditProof}
+use Rattle.paper.specs.Table.{Record, recordsWithin, headsWithin, headAt, headLies, inShape, previousHead, headDigest, lastVersion}
+use Rattle.paper.specs.Write.{versionsBy, unclashed, lookupProof, historyProof, auditProof, writeRead, writeWith}
 use Rattle.paper.specs.Left.{Left}
 use Rattle.paper.specs.declared.State.{State}
+use Rattle.paper.specs.declared.WriteAnswer.the-variants as W
 use Rattle.paper.specs.declared.HistoryAnswer.the-variants as H
 use Rattle.paper.specs.declared.AuditAnswer.the-variants as A
-use Rattle.paper.proofs.Lists.{all-in, in-all, all-take, all-drop, and-left, and-right}
+use Rattle.paper.proofs.Lists.{all-in, in-all, all-take, all-drop, and-right, and-both}
+use Rattle.paper.proofs.Verdicts.{verdict-all}
 use Rattle.paper.proofs.Fits.{Wide}
 use Rattle.paper.proofs.Leaves.{RecordFits, record-fits, zeros-wide}
 use Rattle.paper.proofs.Complete.{lookup-complete, history-complete}
@@ -91,3 +93,20 @@ module _ (lab : Labelling) (sized : Sized lab) (records heads : Bytes) (state : 
       (subst (λ d. checkAudit (headDigest lab heads t rs) d (auditField .bytes (auditProof lab heads (suc t) rs)) ≡ A.Accepted t (suc t) (length (auditStrings (auditProof lab heads (suc t) rs)))) (sym (heads-are (suc t) k))
       (audit-complete lab sized (state .epoch) t rs fits few (kept .shape) heads (omega (arith, epoch-small)) (previous-wide t j) (heads-are t j)
       (kept .all-distinct t j) (kept .old-distinct t j) (kept .all-distinct (suc t) k) (kept .old-distinct (suc t) k)))
+
+  -- ---- and the writers do answer
+
+  -- where the arguments are in bounds, the epoch is reached, nothing clashes and there is room
+  pub writes : (out : Bytes) (input : Bool) (t : ℕ) (clear : List Record → Bool) (proof : List Record → Bytes) → input ≡ true → t ≤ state .epoch → clear rs ≡ true → length (proof rs) ≤ length out
+      → writeWith lab records heads state out input t clear proof ≡ record { answer = W.Written (length (proof rs)) state; out = pasted out 0 (proof rs) }
+  unfolding writeWith rs headLies
+  writes out input t clear proof i k c n =
+      let given : (recordsWithin records && (headsWithin heads && input)) ≡ true = and-both (kept .records-within) (and-both (kept .heads-within) i) in
+      let table : (leb (suc (state .epoch) * wide) (length heads) && inShape lab (state .epoch) [] rs) ≡ true = and-both (le-leb _ _ (kept .lies)) (kept .shape) in
+      verdict-all _ _ _ (given, tt) ∙ ap (writeRead lab records heads state out t clear proof) (kept .read)
+      ∙ verdict-all _ _ _ (table, (le-leb _ _ k, (c, (le-leb _ _ n, tt))))
+
+  -- what stands at the output's start is the proof
+  pub written : (out proof : Bytes) → length proof ≤ length out → take (length proof) (pasted out 0 proof) ≡ proof
+  unfolding pasted
+  written out proof h = take-at proof (drop (0 + length proof) out) (length proof) refl
