@@ -175,8 +175,8 @@ module _ (s : Bytes) (at : ℕ) where
   pub list-none : afterRead s (listField .read (drop at s)) ≡ Nowhere → inLayout (parse listField (drop at s)) ≡ false
   list-none q = list-whole ∙ rw (no-list q)
 
-  pub list-ends : (e : ℕ) → afterRead s (listField .read (drop at s)) ≡ At e → inLayout (parse listField (drop at s)) ≡ eqb e (length s)
-  list-ends e q =
+  pub list-end : (e : ℕ) → afterRead s (listField .read (drop at s)) ≡ At e → inLayout (parse listField (drop at s)) ≡ eqb e (length s)
+  list-end e q =
       let (t, b) = one-list e q in
       list-whole ∙ rw t (ended-at s (behindAt s at) (list-reach s at t) ∙ ap (λ n. eqb n (length s)) b)
 

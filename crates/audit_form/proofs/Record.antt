@@ -1,6 +1,6 @@
 -- What an audit's layout reads at the place of a record, and what that says of the record's bytes. Assumes nothing.
 use mathlib.Core.Path.{_≡_, refl, sym, ap, ap₂, _∙_, subst}
-use mathlib.Core.Logic.{_⊎_, ⊎-elim, by-cases}
+use mathlib.Core.Logic.{_⊎_, inl, inr, ⊎-elim, by-cases}
 use mathlib.Core.Bool.{Bool, true, false, cond, not, _&&_, and-true, and-false}
 use mathlib.Core.List.{List, [], _∷_, _++_}
 use Prim.Native.Nat.{ℕ, zero, suc, _+_, _-_, _*_, _≤_, _<_}
@@ -151,11 +151,17 @@ module _ (s : Bytes) (at : ℕ) where
   record-opened h e =
       record-by h 1 e (omega arith) ∙ rw (le-leb (at + 67) (length s) (omega arith), le-leb (at + 99) (length s) h) (and-true prefixTest ∙ sym (in-layout-at prefix-at))
 
-  pub record-other : at + 99 ≤ length s → 2 < getD s at 0 → inLayout (auditRecordField .read (drop at s)) ≡ false
+  pub record-other : at + 99 ≤ length s → ((getD s at 0 ≡ 0) ⊎ (getD s at 0 ≡ 2) → ⊥) → (getD s at 0 ≡ 1 → ⊥) → inLayout (auditRecordField .read (drop at s)) ≡ false
   unfolding formed
-  record-other h e =
+  record-other h n m =
       let q : kindAt ≡ getD s at 0 = kind-byte (omega arith) in
-      in-layout-at record-at ∙ rw (q, lt-leb (getD s at 0) 2 e) (simp and-false)
+      in-layout-at record-at ∙ rw (q, lt-leb (getD s at 0) 2 (more (getD s at 0) n m)) (simp and-false)
+    where
+      more : (k : ℕ) → ((k ≡ 0) ⊎ (k ≡ 2) → ⊥) → (k ≡ 1 → ⊥) → 2 < k
+      more zero n m = absurd (n (inl refl))
+      more (suc zero) n m = absurd (m refl)
+      more (suc (suc zero)) n m = absurd (n (inr refl))
+      more (suc (suc (suc k))) n m = omega arith
 
   -- "leaves have length 256", "28 zero bytes"; and each epoch in four bytes is one of 32 bits
   pub leaf-test : Bytewise s → at + 99 ≤ length s
@@ -230,7 +236,7 @@ module _ (s : Bytes) (at : ℕ) where
   pub record-tells : Bytewise s → formed ≡ true → Formed s at
   unfolding formed Key sizeAt
   record-tells w e =
-      let front = and-left _ _ e in
+      let front : (leb (at + 1) (length s) && (leb 0 kindAt && leb kindAt 2)) ≡ true = and-left _ _ e in
       let by = and-right (leb (at + 1) (length s) && (leb 0 kindAt && leb kindAt 2)) _ e in
       let h : at + 99 ≤ length s = by-cases (decLe (at + 99) (length s)) (λ h. h) (λ n. not-both by (by-short (omega arith) kindAt)) in
       let kinds = and-right (leb (at + 1) (length s)) _ front in
