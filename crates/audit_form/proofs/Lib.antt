@@ -3,3 +3,4 @@ pub mod At
 pub mod Fields
 pub mod Record
 pub mod Form
+pub mod Places

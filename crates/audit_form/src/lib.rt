@@ -12,6 +12,7 @@ ghost use Rattle.paper.specs.Numbers.{auditMost};
 ghost use Rattle.paper.specs.Layout.{times, parse};
 ghost use Rattle.paper.specs.Fields.{prefixField};
 ghost use Rattle.paper.specs.Audit.{leafFields, auditRecordField, listField, auditField};
+ghost use Rattle.audit_form.specs.Places.{labelAt};
 ghost use Rattle.audit_form.specs.Walk.{inLayout, afterRead};
 
 // "Each proof begins "VKD", 16-bit version 1, kind 1 (1 lookup, 2 history, 3 audit)".
@@ -21,6 +22,16 @@ const OPENS: [u8; 6] = [0x56, 0x4B, 0x44, 0, 1, 3];
 pub enum After {
     At(usize),
     Nowhere,
+}
+
+// The 32 bytes of label or prefix in the record at `at`, as a part of the lent bytes.
+pub fn label_at(s: &[u8], at: usize) -> &[u8]
+    requires { ⌜ at + 99 ≤ length (now s) ⌝ }
+    ensures { λ r. ⌜ now r ≡ labelAt (now (s .entry)) at ⌝ }
+{
+    let start = at + 3;
+    let after = at + 35;
+    &s[start..after]
 }
 
 // The fields of a leaf, behind its kind: "leaves have length 256"; "commitment, epoch and 28 zero bytes".
@@ -46,9 +57,7 @@ fn prefix_form(s: &[u8], at: usize) -> bool
     if length < 1 || 255 < length {
         return false;
     }
-    let start = at + 3;
-    let after = at + 35;
-    let prefix = &s[start..after];
+    let prefix = label_at(s, at);
     same(&prefix_of(prefix, length as usize), prefix)
 }
 

@@ -3,15 +3,15 @@ use borrow.Author.Needs.{needs}
 use native.Mathlib.Omega.{arith}
 use mathlib.Core.Path.{_≡_, sym, ap, ap₂, _∙_}
 use mathlib.Core.Logic.{inl, inr, ⊎-elim}
+use Prim.Native.Nat.{_+_, _≤_, _<_}
 use lib.ListN.{take, drop}
+use borrow.Author.Tests.{ltb-true, ltb-false}
 use Rattle.paper.specs.Numbers.{wide}
+use Rattle.paper.specs.Bytes.{number, same}
 use Rattle.paper.specs.Bits.{bitsOf, pack}
-use Rattle.audit_form.specs.Places.{keyAt, labelAt}
+use Rattle.audit_form.specs.Places.{keyAt}
 use Rattle.audit_form.proofs.Fields.{bytewise}
 use Rattle.audit_form.proofs.Record.{prefix-out, prefix-in}
-use Prim.Native.Nat.{_+_, _-_, _≤_, _<_}
-use borrow.Author.Tests.{ltb-true, ltb-false}
-use Rattle.paper.specs.Bytes.{number, same}
 use Rattle.audit_form.proofs.prefix_form.Statement.{statement}
 use Rattle.audit_form.proofs.prefix_form.Tie as tie
 
@@ -27,20 +27,8 @@ returns c =
     let e = c .before .read16 .ensures in
     sym (prefix-out (start .args .s .now) (start .args .at) (⊎-elim (λ w. inl (omega arith)) (λ w. inr (omega (arith, ltb-true))) (c .if1 .came)))
 
-add-start : tie.Need-add-start
-add-start c = search needs
-
-add-after : tie.Need-add-after
-add-after c = search needs
-
-sub-prefix : tie.Need-sub-prefix
-sub-prefix c = search needs
-
-part-prefix-start : tie.Need-part-prefix-start
-part-prefix-start c = search needs
-
-part-prefix-end : tie.Need-part-prefix-end
-part-prefix-end c = search needs
+label-at-requires : tie.Need-label-at-requires
+label-at-requires c κs = search needs
 
 cast-prefix-of : tie.Need-cast-prefix-of
 cast-prefix-of c = search needs
@@ -55,20 +43,19 @@ same-requires : tie.Need-same-requires
 same-requires c κs = search needs
 
 returns-2 : tie.Need-returns-2
-unfolding keyAt labelAt
+unfolding keyAt
 returns-2 c =
-    let read = c .before .before .before .before .before .before in
+    let label = c .before .before .before in
+    let read = label .before .before .before in
     let start = read .before .before in
     let s = start .args .s .now in
     let at = start .args .at in
     let w = bytewise s (λ i. read .before .shared-slice-known .given i .fits) in
     let n = read .read16 .ensures in
-    let e : at + 35 - (at + 3) ≡ wide = omega arith in
     let least : 1 ≤ number (take 2 (drop (at + 1) s)) = omega arith in
     let most : number (take 2 (drop (at + 1) s)) ≤ 255 = omega (arith, ltb-false) in
     c .same .ensures
-    ∙ ap (λ x. same x (take (at + 35 - (at + 3)) (drop (at + 3) s))) (c .before .before .prefix-of .ensures)
-    ∙ ap₂ (λ k m. same (pack wide (take k (bitsOf (take m (drop (at + 3) s))))) (take m (drop (at + 3) s))) n e
+    ∙ ap₂ same (c .before .before .prefix-of .ensures ∙ ap₂ (λ k x. pack wide (take k (bitsOf x))) n (label .label-at .ensures)) (label .label-at .ensures)
     ∙ sym (prefix-in s at w (start .pre) least most)
 
 pub prefix-form-spec : {M : Type 1} → statement M
@@ -78,11 +65,7 @@ prefix-form-spec =
     add-read16
     read16-requires
     returns
-    add-start
-    add-after
-    sub-prefix
-    part-prefix-start
-    part-prefix-end
+    label-at-requires
     cast-prefix-of
     prefix-of-requires
     slice-aggregate-same
