@@ -17,7 +17,7 @@ ghost use Rattle.audit_rules.specs.Tree.{whichOf};
 
 // Whether the record at `a` stands before the one at `b`, and neither key is a prefix of the other: where the labels
 // first differ both keys still have a bit, and the second one's is 1.
-fn before(s: &[u8], a: usize, b: usize) -> bool
+fn stands_before(s: &[u8], a: usize, b: usize) -> bool
     requires { ⌜ (a + 99 ≤ length (now s)) × (b + 99 ≤ length (now s)) ⌝ }
     ensures { λ r. ⌜ r ≡ before? (keyAt (now (s .entry)) a) (keyAt (now (s .entry)) b) ⌝ }
 {
@@ -39,7 +39,7 @@ fn in_order(s: &[u8], at: usize, n: usize) -> bool
 {
     let mut place = at;
     for _ in 1..n {
-        if !before(s, place, place + 99) {
+        if !stands_before(s, place, place + 99) {
             return false;
         }
         place += 99;
@@ -69,13 +69,14 @@ fn record_rule(s: &[u8], at: usize, of_old: bool, old: u32, new: u32) -> bool
     if kind == 1 {
         return true;
     }
+    if !commitment_rule(s, at, of_old) {
+        return false;
+    }
     let epoch = read32(s, at + 67);
-    let fits = if kind == 0 {
-        1 <= epoch && epoch <= old
-    } else {
-        epoch == new
-    };
-    fits && commitment_rule(s, at, of_old)
+    if kind == 0 {
+        return 1 <= epoch && epoch <= old;
+    }
+    epoch == new
 }
 
 // The rule of each record of the list.

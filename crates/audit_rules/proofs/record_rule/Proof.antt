@@ -1,38 +1,60 @@
+-- `audit_rules::record_rule`: by the kind, with the commitment first.
 use borrow.Author.Needs.{needs}
+use native.Mathlib.Omega.{arith}
+use mathlib.Core.Path.{_≡_, sym, ap, _∙_}
+use lib.Dec.{leb, eqb}
+use borrow.Author.Tests.{le-leb, lt-leb, not-true, not-false}
+use Rattle.audit_rules.specs.Tree.{whichOf}
+use Rattle.audit_rules.proofs.Rules.{rule-opened, rule-unchanged, rule-fresh, rule-commitment}
 use Rattle.audit_rules.proofs.record_rule.Statement.{statement}
 use Rattle.audit_rules.proofs.record_rule.Tie as tie
-use Rattle.audit_rules.proofs.record_rule.Reads as reads
-use Rattle.audit_rules.proofs.record_rule.Lts as lts
-use Rattle.audit_rules.proofs.commitment_rule.Reads as commitment-rule-reads
-use Rattle.words.proofs.read32.Reads as read32-reads
 
--- src/lib.rt:68:16
 shared-slice-read-kind : tie.Need-shared-slice-read-kind
 shared-slice-read-kind c = search needs
 
--- src/lib.rt:70:9
 returns : tie.Need-returns
-returns c = ?
+returns c =
+    let a = c .before .before .before .args in
+    sym (rule-opened (whichOf (a .of-old)) (a .old) (a .new) (a .s .now) (a .at) (c .if1 .taken))
 
--- src/lib.rt:72:27
-add-read32 : tie.Need-add-read32
-add-read32 c = search needs
-
--- src/lib.rt:72:9
-read32-requires : tie.Need-read32-requires
-read32-requires c κs = search needs
-
--- src/lib.rt:78:13
 commitment-rule-requires : tie.Need-commitment-rule-requires
 commitment-rule-requires c κs = search needs
 
--- src/lib.rt:64:1
 returns-2 : tie.Need-returns-2
-returns-2 c = ?
+returns-2 c =
+    let called = c .before in
+    let a = called .before .before .before .before .args in
+    sym (rule-commitment (whichOf (a .of-old)) (a .old) (a .new) (a .s .now) (a .at) (called .before .if1 .left) (sym (called .commitment-rule .ensures) ∙ not-true _ (c .if2 .taken)))
 
--- src/lib.rt:64:1
+add-read32 : tie.Need-add-read32
+add-read32 c = search needs
+
+read32-requires : tie.Need-read32-requires
+read32-requires c κs = search needs
+
 returns-3 : tie.Need-returns-3
-returns-3 c = ?
+returns-3 c =
+    let read = c .before .before in
+    let called = read .before .before in
+    let a = called .before .before .before .before .args in
+    let q = rule-unchanged (whichOf (a .of-old)) (a .old) (a .new) (a .s .now) (a .at) (c .before .if3 .taken) (sym (called .commitment-rule .ensures) ∙ not-false _ (read .before .if2 .left)) in
+    sym (q ∙ rw (← (read .read32 .ensures), le-leb 1 _ (c .if4 .taken)))
+
+returns-4 : tie.Need-returns-4
+returns-4 c =
+    let read = c .before .before in
+    let called = read .before .before in
+    let a = called .before .before .before .before .args in
+    let q = rule-unchanged (whichOf (a .of-old)) (a .old) (a .new) (a .s .now) (a .at) (c .before .if3 .taken) (sym (called .commitment-rule .ensures) ∙ not-false _ (read .before .if2 .left)) in
+    sym (q ∙ rw (← (read .read32 .ensures), lt-leb 1 _ (c .if4 .left)))
+
+returns-5 : tie.Need-returns-5
+returns-5 c =
+    let read = c .before in
+    let called = read .before .before in
+    let a = called .before .before .before .before .args in
+    let q = rule-fresh (whichOf (a .of-old)) (a .old) (a .new) (a .s .now) (a .at) (c .if3 .left) (called .before .if1 .left) (sym (called .commitment-rule .ensures) ∙ not-false _ (read .before .if2 .left)) in
+    sym (q ∙ rw (← (read .read32 .ensures)))
 
 pub record-rule-spec : {M : Type 1} → statement M
 record-rule-spec =
@@ -40,8 +62,10 @@ record-rule-spec =
     (tie.spec
     shared-slice-read-kind
     returns
-    add-read32
-    read32-requires
     commitment-rule-requires
     returns-2
-    returns-3)
+    add-read32
+    read32-requires
+    returns-3
+    returns-4
+    returns-5)
