@@ -59,3 +59,9 @@ records-all P s at (suc n) h =
       rw e at (h 0 (omega arith)),
       records-all P s (at + 99) n (λ i l. let f : at + suc i * 99 ≡ at + 99 + i * 99 = omega arith in rw f at (h (suc i) (omega arith))),
     )
+
+pub records-each : (P : AuditRecord → Type 0) (s : Bytes) (at n : ℕ) → All P (recordsAt s at n) → (i : ℕ) → i < n → P (recordAt s (at + i * 99))
+unfolding recordsAt
+records-each P s at zero h i l = absurd (omega arith)
+records-each P s at (suc n) h zero l = let e : at + 0 * 99 ≡ at = omega arith in rw e (h .0)
+records-each P s at (suc n) h (suc i) l = let f : at + 99 + i * 99 ≡ at + suc i * 99 = omega arith in rw f at (records-each P s (at + 99) n (h .1) i (omega arith))

@@ -155,3 +155,19 @@ in-order (x ∷ y ∷ R) e =
     let b = test-before (recordKey x) (recordKey y) (and-left _ _ e) in
     let h = in-order (y ∷ R) (and-right (before? (recordKey x) (recordKey y)) _ e) in
     ((b, in-all _ R (λ z m. before-trans (recordKey x) (recordKey y) (recordKey z) b (all-in _ R (h .0) z m))), h)
+
+-- a part of a list in order is in order
+pub order-left : (R Q : List AuditRecord) → inOrder (R ++ Q) ≡ true → inOrder R ≡ true
+unfolding inOrder
+order-left [] Q e = refl
+order-left (x ∷ []) Q e = refl
+order-left (x ∷ y ∷ R) Q e =
+    let b = before? (recordKey x) (recordKey y) in
+    and-both {a = b} (and-left b _ e) (order-left (y ∷ R) Q (and-right b _ e))
+
+pub order-right : (R Q : List AuditRecord) → inOrder (R ++ Q) ≡ true → inOrder Q ≡ true
+unfolding inOrder
+order-right [] Q e = e
+order-right (x ∷ []) [] e = refl
+order-right (x ∷ []) (y ∷ Q) e = and-right (before? (recordKey x) (recordKey y)) _ e
+order-right (x ∷ y ∷ R) Q e = order-right (y ∷ R) Q (and-right (before? (recordKey x) (recordKey y)) _ e)
