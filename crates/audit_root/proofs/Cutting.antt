@@ -20,7 +20,20 @@ use Rattle.audit_root.specs.Built.{leftsAt}
 abbrev pub bitAt : Bytes → ℕ → ℕ → Bool
 bitAt s k at = getD (bitsOf (labelAt s at)) k false
 
--- how many go left: each of these has a 0, and the next one has a 1
+-- how many go left, counted from the first on
+pub lefts-none : (s : Bytes) (k at : ℕ) → leftsAt s k at 0 ≡ 0
+unfolding leftsAt
+lefts-none s k at = refl
+
+pub lefts-more : (s : Bytes) (k at n : ℕ) → bitAt s k at ≡ false → leftsAt s k at (suc n) ≡ suc (leftsAt s k (at + 99) n)
+unfolding leftsAt
+lefts-more s k at n e = rw e
+
+pub lefts-stop : (s : Bytes) (k at n : ℕ) → bitAt s k at ≡ true → leftsAt s k at (suc n) ≡ 0
+unfolding leftsAt
+lefts-stop s k at n e = rw e
+
+-- each of these has a 0, and the next one has a 1
 pub lefts-most : (s : Bytes) (k at n : ℕ) → leftsAt s k at n ≤ n
 unfolding leftsAt
 lefts-most s k at zero = omega arith

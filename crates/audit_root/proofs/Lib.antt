@@ -1,5 +1,5 @@
 -- Laws of the recursion over an audit's records.
 pub mod Nodes
-pub mod One
+pub mod Single
 pub mod Cutting
 pub mod Step

@@ -13,7 +13,7 @@ use Rattle.paper.specs.Lists.{All}
 use Rattle.paper.specs.Numbers.{wide}
 use Rattle.paper.specs.Bytes.{Bytes}
 use Rattle.paper.specs.Bits.{Bits, Pfx, pack}
-use Rattle.paper.specs.Strings.{Node}
+use Rattle.paper.specs.Strings.{Node, nothingString}
 use Rattle.paper.specs.Tree.{key, Tree, empty, one, fork, nodes, build, root}
 use Rattle.paper.specs.Audit.{AuditRecord, unchanged, opened, fresh, recordKey, olds, news}
 use Rattle.paper.proofs.Tree.{Free, Below, below-none}
@@ -98,6 +98,14 @@ fork-grown p (x ∷ S) (y ∷ T) h b =
     let l = build 256 (x ∷ S) in
     let r = build 256 (y ∷ T) in
     rw (build-parts p x S y T h b, ne-eqb (built l .count) 0 (built-count l), ne-eqb (built r .count) 0 (built-count r)) (sym (joined-fork p l r))
+
+pub or-few : (b : Built) → orNothing b .count ≤ b .count + 1
+unfolding orNothing
+or-few b = by (eqb (b .count) 0)
+  where
+    by : (t : Bool) → (cond t (record { digest = sha256 nothingString; count = 1 }) b) .count ≤ b .count + 1
+    by true = omega arith
+    by false = omega arith
 
 or-some : (b : Built) → (b .count ≡ 0 → ⊥) → orNothing b ≡ b
 unfolding orNothing

@@ -13,7 +13,7 @@ use Rattle.paper.specs.Numbers.{wide}
 use Rattle.paper.specs.Bytes.{Bytes, number}
 use Rattle.paper.specs.Bits.{Bits, Pfx, _▹_, lcp, bitsOf, pack, firstDifference}
 use Rattle.paper.specs.Strings.{Node}
-use Rattle.paper.specs.Tree.{key, root}
+use Rattle.paper.specs.Tree.{nodes, root}
 use Rattle.paper.specs.Audit.{AuditRecord, recordKey, inOrder}
 use Rattle.paper.proofs.Lists.{all-in, in-all, all-right}
 use Rattle.paper.proofs.Bits.{pfx-nil, pfx-trans, pfx-take, pfx-length, pfx-one-way, length-snoc, lcp-left, lcp-right, lcp-most}
@@ -25,7 +25,7 @@ use Rattle.bit_order.proofs.Sides.{Parts, ordered-free}
 use Rattle.audit_form.specs.Places.{labelAt, keyAt, recordAt, recordsAt, Formed, Listed}
 use Rattle.audit_form.proofs.Places.{record-key, label-bits, labels-differ, records-length, records-append, records-all, records-each}
 use Rattle.audit_root.specs.Built.{built, grown, orNothing, joined, forked, nodesOf, leftsAt, Range}
-use Rattle.audit_root.proofs.Nodes.{nodes-all, nodes-ordered, nodes-most, nodes-append, grown-few, fork-grown, root-grown}
+use Rattle.audit_root.proofs.Nodes.{nodes-all, nodes-ordered, nodes-most, nodes-append, grown-few, fork-grown, or-few, root-grown}
 use Rattle.audit_root.proofs.Cutting.{bitAt, lefts-most, lefts-low, lefts-high, Past, goes-on, cut-low, cut-whole, cut-high}
 
 key-most : (s : Bytes) (at : ℕ) → length (keyAt s at) ≤ 256
@@ -249,3 +249,20 @@ module _ (s : Bytes) (at n : ℕ) (l : Listed s at n) (e : inOrder (recordsAt s 
         };
         joins = λ new. root-grown (nodesOf new R) (nodesOf new Q) (cut-parts s at n [] root-past o new) ∙ ap (λ S. built (root S)) (sym (ap (nodesOf new) whole ∙ nodes-append new R Q));
       }
+
+-- how many nodes are hashed for a root
+pub sides-few : (s : Bytes) (at n m : ℕ) → RootStep s at n m → (new : Bool)
+    → orNothing (grown (nodesOf new (recordsAt s at m))) .count + orNothing (grown (nodesOf new (recordsAt s (at + m * 99) (n - m)))) .count ≤ 2 * n + 2
+sides-few s at n m k new = omega (
+  arith,
+  k .most,
+  or-few (grown (nodesOf new (recordsAt s at m))),
+  range-few s at m (k .left .rises) new,
+  or-few (grown (nodesOf new (recordsAt s (at + m * 99) (n - m)))),
+  range-few s (at + m * 99) (n - m) (k .right .rises) new,
+)
+
+pub root-few : (s : Bytes) (at n : ℕ) → Listed s at n → inOrder (recordsAt s at n) ≡ true → (new : Bool) → length (nodes (root (nodesOf new (recordsAt s at n)))) ≤ 2 * n + 3
+root-few s at n l e new =
+    let k = root-step s at n l e in
+    omega (arith, ap (λ b. b .count) (k .joins new), sides-few s at n (leftsAt s 0 at n) k new)
