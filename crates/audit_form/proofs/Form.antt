@@ -17,7 +17,7 @@ use Rattle.paper.specs.Audit.{AuditRecord, auditRecordField, listField, Audit, 
 use Rattle.paper.proofs.Lists.{not-both, and-left, and-right, all-take, all-drop}
 use Rattle.paper.proofs.Bytes.{number-lt}
 use Rattle.words.proofs.Pasted.{length-part}
-use Rattle.audit_form.specs.Places.{recordAt, recordsAt, headAt, countAt, behindAt, auditAt, Formed, Listed}
+use Rattle.audit_form.specs.Places.{recordAt, recordsAt, headAt, countAt, behindAt, auditAt, Formed, Listed, Laid}
 use Rattle.audit_form.specs.Walk.{inLayout, afterRead}
 use Rattle.audit_form.specs.declared.After.{After}
 use Rattle.audit_form.specs.declared.After.the-variants.{At, Nowhere}
@@ -251,22 +251,25 @@ module _ (s : Bytes) where
       audit-whole s ∙ rw (o, head-test s 6 w (omega arith), head-test s 106 w (omega arith), t, b) (sym (list-whole s e))
 
 -- what an audit in layout says of its bytes
-pub record AuditTold (s : Bytes) : Type 0 where
-  pub long : 206 ≤ length s
-  pub reads : parse auditField s ≡ got (auditAt s) []
-  pub all : Listed s 210 (countAt s 206)
-  pub old : Listed s (behindAt s 206 + 4) (countAt s (behindAt s 206))
+pub audit-reads : (s : Bytes) → inLayout (parse auditField s) ≡ true → parse auditField s ≡ got (auditAt s) []
+audit-reads s e = ap whole (audit-at s .reads) ∙ whole-got (auditTest s) (auditAt s) _ (sym (ap (λ m. inLayout (whole m)) (audit-at s .reads)) ∙ e)
 
-pub audit-tells : (s : Bytes) → Bytewise s → inLayout (parse auditField s) ≡ true → AuditTold s
+pub audit-laid : (s : Bytes) → Bytewise s → inLayout (parse auditField s) ≡ true → Laid s
 unfolding auditTest
-audit-tells s w e =
+audit-laid s w e =
     let t = and-left (auditTest s) _ (sym (audit-whole s) ∙ e) in
     let heads = and-right (opensTest s) _ t in
     let second = and-right (headTest s 6) _ heads in
     let lists = and-right (headTest s 106) _ second in
     record {
       long = by-cases (decLe 206 (length s)) (λ h. h) (λ n. not-both e (audit-short s (omega arith)));
-      reads = ap whole (audit-at s .reads) ∙ whole-got (auditTest s) (auditAt s) _ (sym (ap (λ m. inLayout (whole m)) (audit-at s .reads)) ∙ e);
       all = list-tells s 206 w (and-left _ _ lists);
       old = list-tells s (behindAt s 206) w (and-right (listTest s 206) _ lists);
     }
+
+pub audit-bad : (s : Bytes) → inLayout (parse auditField s) ≡ false → parse auditField s ≡ bad
+audit-bad s e = by (parse auditField s) e
+  where
+    by : (m : Read Audit) → inLayout m ≡ false → m ≡ bad
+    by (got a r) e = not-both refl e
+    by bad e = refl

@@ -68,3 +68,9 @@ pub record Listed (s : Bytes) (at n : ℕ) : Type 0 where
   pub reach : at + n * 99 ≤ length s
   pub few : n ≤ auditMost
   pub each : (i : ℕ) → i < n → Formed s (at + i * 99)
+
+-- an audit in layout: room for its heads, and two lists
+pub record Laid (s : Bytes) : Type 0 where
+  pub long : 206 ≤ length s
+  pub all : Listed s 210 (countAt s 206)
+  pub old : Listed s (behindAt s 206 + 4) (countAt s (behindAt s 206))
