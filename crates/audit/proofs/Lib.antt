@@ -1,0 +1,2 @@
+-- Laws of the audit's tests in parts.
+pub mod Parts

@@ -1,0 +1,2 @@
+-- What the contracts of the audit checker cite.
+pub mod Tests

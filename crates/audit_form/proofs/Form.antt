@@ -1,0 +1,275 @@
+-- What an audit's layout reads at the place of records, of a list, of a head, and in the whole proof. Assumes nothing.
+use mathlib.Core.Path.{_≡_, refl, sym, ap, ap₂, _∙_, subst}
+use mathlib.Core.Logic.{⊎-elim, by-cases}
+use mathlib.Core.Bool.{Bool, true, false, cond, _&&_, and-false}
+use mathlib.Core.List.{List, [], _∷_, _++_}
+use Prim.Native.Nat.{ℕ, zero, suc, _+_, _-_, _*_, _≤_, _<_}
+use native.Mathlib.Omega.{arith}
+use native.Mathlib.Decide.{decLe}
+use lib.Dec.{leb, eqb, eqb·zero-suc, eqb·suc-suc}
+use lib.ListN.{length, take, drop, length-drop, drop-of-length-le}
+use borrow.Author.Tests.{le-leb, lt-leb, leb-true, leb-false}
+use Rattle.paper.specs.Numbers.{wide, auditMost, epochMost}
+use Rattle.paper.specs.Bytes.{Bytes, Bytewise, be, number, same}
+use Rattle.paper.specs.Layout.{Read, got, bad, Layout, andThen, times, timesRead, whole, parse}
+use Rattle.paper.specs.Fields.{headField, opens}
+use Rattle.paper.specs.Audit.{AuditRecord, auditRecordField, listField, Audit, auditField}
+use Rattle.paper.proofs.Lists.{not-both, and-left, and-right, all-take, all-drop}
+use Rattle.paper.proofs.Bytes.{number-lt}
+use Rattle.words.proofs.Pasted.{length-part}
+use Rattle.audit_form.specs.Places.{recordAt, recordsAt, headAt, countAt, behindAt, auditAt, Formed, Listed, Laid}
+use Rattle.audit_form.specs.Walk.{inLayout, afterRead}
+use Rattle.audit_form.specs.declared.After.{After}
+use Rattle.audit_form.specs.declared.After.the-variants.{At, Nowhere}
+use Rattle.audit_form.proofs.At.{ReadAt, block-at, fixed-at, within-at, seq-at, led-at, view-at, then-cond, over-cond}
+use Rattle.audit_form.proofs.Record.{in-layout-at, formed, record-at, record-short, record-tells}
+
+-- ---- records
+
+allFormed : Bytes → ℕ → ℕ → Bool
+allFormed s at zero = true
+allFormed s at (suc n) = formed s at && allFormed s (at + 99) n
+
+records-at : (s : Bytes) (at n : ℕ) → ReadAt (times n auditRecordField) s at (allFormed s at n) (recordsAt s at n) (at + n * 99)
+unfolding times timesRead allFormed recordsAt
+records-at s at zero = let e : at + 0 * 99 ≡ at = omega arith in record { reads = rw e }
+records-at s at (suc n) =
+    let e : at + 99 + n * 99 ≡ at + suc n * 99 = omega arith in
+    let behind = records-at s (at + 99) n in
+    record {
+      reads = ap (λ z. andThen z (λ x r. andThen (timesRead (auditRecordField .read) n r) (λ l q. got (x ∷ l) q))) (record-at s at .reads)
+          ∙ then-cond (formed s at) (allFormed s (at + 99) n) (recordAt s at) (drop (at + 99) s) _ (recordAt s at ∷ recordsAt s (at + 99) n) (drop (at + suc n * 99) s)
+          (ap (λ z. andThen z (λ l q. got (recordAt s at ∷ l) q)) (rw e at (behind .reads)) ∙ over-cond (allFormed s (at + 99) n) (recordsAt s (at + 99) n) (drop (at + suc n * 99) s) (λ l. recordAt s at ∷ l));
+    }
+
+formed-reach : (s : Bytes) (at : ℕ) → formed s at ≡ true → at + 99 ≤ length s
+formed-reach s at e = by-cases (decLe (at + 99) (length s)) (λ h. h) (λ n. not-both (in-layout-at (record-at s at) ∙ e) (record-short s at (omega arith)))
+
+all-reach : (s : Bytes) (at n : ℕ) → at ≤ length s → allFormed s at n ≡ true → at + n * 99 ≤ length s
+unfolding allFormed
+all-reach s at zero h e = omega arith
+all-reach s at (suc n) h e =
+    let r = formed-reach s at (and-left _ _ e) in
+    omega (arith, all-reach s (at + 99) n r (and-right (formed s at) _ e))
+
+all-each : (s : Bytes) (at n : ℕ) → Bytewise s → allFormed s at n ≡ true → (i : ℕ) → i < n → Formed s (at + i * 99)
+unfolding allFormed
+all-each s at zero w e i h = absurd (omega arith)
+all-each s at (suc n) w e zero h = let z : at + 0 * 99 ≡ at = omega arith in rw z (record-tells s at w (and-left _ _ e))
+all-each s at (suc n) w e (suc i) h =
+    let z : at + 99 + i * 99 ≡ at + suc i * 99 = omega arith in
+    rw z at (all-each s (at + 99) n w (and-right (formed s at) _ e) i (omega arith))
+
+-- ---- the walk over records
+
+-- the place behind what was read, and whether nothing follows
+after-cond : {A : Type 0} (s : Bytes) (t : Bool) (x : A) (e : ℕ) → (t ≡ true → e ≤ length s) → afterRead s (cond t (got x (drop e s)) bad) ≡ cond t (At e) Nowhere
+after-cond s true x e h = let q : length s - length (drop e s) ≡ e = omega (arith, h refl, length-drop e s) in ap At q
+after-cond s false x e h = refl
+
+pub records-none : (s : Bytes) (at : ℕ) → at ≤ length s → afterRead s (times 0 auditRecordField .read (drop at s)) ≡ At at
+unfolding times timesRead
+records-none s at h = after-cond {A = List AuditRecord} s true [] at (λ _. h)
+
+walked : (s : Bytes) (at n : ℕ) → at ≤ length s → afterRead s (times n auditRecordField .read (drop at s)) ≡ cond (allFormed s at n) (At (at + n * 99)) Nowhere
+walked s at n h = ap (afterRead s) (records-at s at n .reads) ∙ after-cond s (allFormed s at n) (recordsAt s at n) (at + n * 99) (all-reach s at n h)
+
+-- a record in layout, and the walk goes on behind it; one out of layout, and it ends
+pub record-reach : (s : Bytes) (at : ℕ) → inLayout (auditRecordField .read (drop at s)) ≡ true → at + 99 ≤ length s
+record-reach s at e = formed-reach s at (sym (in-layout-at (record-at s at)) ∙ e)
+
+pub records-more : (s : Bytes) (at n : ℕ) → at ≤ length s → inLayout (auditRecordField .read (drop at s)) ≡ true
+    → afterRead s (times (suc n) auditRecordField .read (drop at s)) ≡ afterRead s (times n auditRecordField .read (drop (at + 99) s))
+unfolding allFormed
+records-more s at n h e =
+    let z : at + 99 + n * 99 ≡ at + suc n * 99 = omega arith in
+    walked s at (suc n) h ∙ rw (sym (in-layout-at (record-at s at)) ∙ e, ← z) (sym (walked s (at + 99) n (record-reach s at e)))
+
+pub records-stop : (s : Bytes) (at n : ℕ) → at ≤ length s → inLayout (auditRecordField .read (drop at s)) ≡ false
+    → afterRead s (times (suc n) auditRecordField .read (drop at s)) ≡ Nowhere
+unfolding allFormed
+records-stop s at n h e = walked s at (suc n) h ∙ rw (sym (in-layout-at (record-at s at)) ∙ e)
+
+-- ---- a list
+
+module _ (s : Bytes) (at : ℕ) where
+  listTest : Bool
+  listTest = (leb (at + 4) (length s) && (leb 0 (countAt s at) && leb (countAt s at) auditMost)) && allFormed s (at + 4) (countAt s at)
+
+  list-at : ReadAt listField s at listTest (recordsAt s (at + 4) (countAt s at)) (behindAt s at)
+  unfolding listTest countAt behindAt
+  list-at = led-at length (λ n. times n auditRecordField) (within-at 4 0 auditMost s at (at + 4) (omega arith) (omega arith)) (records-at s (at + 4) (number (take 4 (drop at s))))
+
+  list-reach : listTest ≡ true → behindAt s at ≤ length s
+  unfolding listTest behindAt
+  list-reach e = all-reach s (at + 4) (countAt s at) (leb-true (at + 4) (length s) (and-left _ _ (and-left _ _ e))) (and-right (leb (at + 4) (length s) && (leb 0 (countAt s at) && leb (countAt s at) auditMost)) _ e)
+
+  list-tells : Bytewise s → listTest ≡ true → Listed s (at + 4) (countAt s at)
+  unfolding listTest behindAt
+  list-tells w e =
+      let a = and-right (leb (at + 4) (length s) && (leb 0 (countAt s at) && leb (countAt s at) auditMost)) _ e in
+      let f = and-right (leb (at + 4) (length s)) _ (and-left _ _ e) in
+      record { reach = list-reach e; few = leb-true (countAt s at) auditMost (and-right (leb 0 (countAt s at)) _ f); each = all-each s (at + 4) (countAt s at) w a }
+
+  list-after : afterRead s (listField .read (drop at s)) ≡ cond listTest (At (behindAt s at)) Nowhere
+  list-after = ap (afterRead s) (list-at .reads) ∙ after-cond s listTest (recordsAt s (at + 4) (countAt s at)) (behindAt s at) list-reach
+
+  -- too short for a count, too large a count, and the walk over the records
+  pub list-short : length s < at + 4 → afterRead s (listField .read (drop at s)) ≡ Nowhere
+  unfolding listTest
+  list-short h = list-after ∙ rw (lt-leb (at + 4) (length s) h)
+
+  pub list-many : auditMost < countAt s at → afterRead s (listField .read (drop at s)) ≡ Nowhere
+  unfolding listTest
+  list-many h = list-after ∙ rw (lt-leb (countAt s at) auditMost h) (simp and-false)
+
+  pub list-walk : at + 4 ≤ length s → countAt s at ≤ auditMost → afterRead s (listField .read (drop at s)) ≡ afterRead s (times (countAt s at) auditRecordField .read (drop (at + 4) s))
+  unfolding listTest behindAt
+  list-walk h l = list-after ∙ rw (le-leb (at + 4) (length s) h, le-leb 0 (countAt s at) (omega arith), le-leb (countAt s at) auditMost l) (sym (walked s (at + 4) (countAt s at) h))
+
+-- ---- the whole proof
+
+-- "Nothing may follow the last field."
+ended : {A : Type 0} → List A → Bool
+ended [] = true
+ended (x ∷ l) = false
+
+whole-cond : {A : Type 0} (t : Bool) (x : A) (r : Bytes) → inLayout (whole (cond t (got x r) bad)) ≡ (t && ended r)
+unfolding ended
+whole-cond true x [] = refl
+whole-cond true x (b ∷ r) = refl
+whole-cond false x r = refl
+
+whole-got : {A : Type 0} (t : Bool) (x : A) (r : Bytes) → inLayout (whole (cond t (got x r) bad)) ≡ true → whole (cond t (got x r) bad) ≡ got x []
+whole-got true x [] e = refl
+whole-got true x (b ∷ r) e = not-both e refl
+whole-got false x r e = not-both e refl
+
+ended-at : (s : Bytes) (e : ℕ) → e ≤ length s → ended (drop e s) ≡ eqb e (length s)
+unfolding ended
+ended-at [] zero h = refl
+ended-at [] (suc e) h = absurd (omega arith)
+ended-at (b ∷ s) zero h = sym (eqb·zero-suc (length s))
+ended-at (b ∷ s) (suc e) h = ended-at s e (omega arith) ∙ sym (eqb·suc-suc e (length s))
+
+-- what the place behind a list tells
+no-place : (t : Bool) (e : ℕ) → cond t (At e) Nowhere ≡ Nowhere → t ≡ false
+no-place true e q = let z : _≡_ {A = ℕ} 0 1 = cc in absurd (omega arith)
+no-place false e q = refl
+
+one-place : (t : Bool) (e f : ℕ) → cond t (At e) Nowhere ≡ At f → (t ≡ true) × (e ≡ f)
+one-place true e f q = (refl, cc)
+one-place false e f q = let z : _≡_ {A = ℕ} 0 1 = cc in absurd (omega arith)
+
+module _ (s : Bytes) (at : ℕ) where
+  no-list : afterRead s (listField .read (drop at s)) ≡ Nowhere → listTest s at ≡ false
+  no-list q = no-place (listTest s at) (behindAt s at) (sym (list-after s at) ∙ q)
+
+  one-list : (e : ℕ) → afterRead s (listField .read (drop at s)) ≡ At e → (listTest s at ≡ true) × (behindAt s at ≡ e)
+  one-list e q = one-place (listTest s at) (behindAt s at) e (sym (list-after s at) ∙ q)
+
+  list-whole : inLayout (parse listField (drop at s)) ≡ (listTest s at && ended (drop (behindAt s at) s))
+  list-whole = ap (λ m. inLayout (whole m)) (list-at s at .reads) ∙ whole-cond (listTest s at) _ (drop (behindAt s at) s)
+
+  -- no list ends the bytes, and a list does
+  pub list-none : afterRead s (listField .read (drop at s)) ≡ Nowhere → inLayout (parse listField (drop at s)) ≡ false
+  list-none q = list-whole ∙ rw (no-list q)
+
+  pub list-end : (e : ℕ) → afterRead s (listField .read (drop at s)) ≡ At e → inLayout (parse listField (drop at s)) ≡ eqb e (length s)
+  list-end e q =
+      let (t, b) = one-list e q in
+      list-whole ∙ rw t (ended-at s (behindAt s at) (list-reach s at t) ∙ ap (λ n. eqb n (length s)) b)
+
+  pub list-place : (e : ℕ) → afterRead s (listField .read (drop at s)) ≡ At e → e ≤ length s
+  list-place e q = let (t, b) = one-list e q in rw b at (list-reach s at t)
+
+headTest : Bytes → ℕ → Bool
+headTest s at =
+    (leb (at + 4) (length s) && (leb 0 (number (take 4 (drop at s))) && leb (number (take 4 (drop at s))) epochMost))
+    && (leb (at + 36) (length s) && (leb (at + 68) (length s) && leb (at + 100) (length s)))
+
+head-at : (s : Bytes) (at : ℕ) → ReadAt headField s at (headTest s at) (headAt s at) (at + 100)
+unfolding headTest headAt
+head-at s at = view-at _ _
+    (seq-at (within-at 4 0 epochMost s at (at + 4) (omega arith) (omega arith))
+    (seq-at (block-at wide s (at + 4) (at + 36) (omega arith) (omega arith))
+    (seq-at (block-at wide s (at + 36) (at + 68) (omega arith) (omega arith))
+    (block-at wide s (at + 68) (at + 100) (omega arith) (omega arith)))))
+
+opensTest : Bytes → Bool
+opensTest s = same (take 6 s) (0x56 ∷ 0x4B ∷ 0x44 ∷ (be 2 1 ++ (3 ∷ [])))
+
+auditTest : Bytes → Bool
+auditTest s = opensTest s && (headTest s 6 && (headTest s 106 && (listTest s 206 && listTest s (behindAt s 206))))
+
+audit-at : (s : Bytes) → ReadAt auditField s 0 (auditTest s) (auditAt s) (behindAt s (behindAt s 206))
+unfolding auditTest opensTest auditAt be
+audit-at s = view-at _ _
+    (seq-at (fixed-at (0x56 ∷ 0x4B ∷ 0x44 ∷ (be 2 1 ++ (3 ∷ []))) s 0 6 (omega arith))
+    (seq-at (head-at s 6)
+    (seq-at (head-at s 106)
+    (seq-at (list-at s 206)
+    (list-at s (behindAt s 206))))))
+
+audit-whole : (s : Bytes) → inLayout (parse auditField s) ≡ (auditTest s && ended (drop (behindAt s (behindAt s 206)) s))
+audit-whole s = ap (λ m. inLayout (whole m)) (audit-at s .reads) ∙ whole-cond (auditTest s) (auditAt s) (drop (behindAt s (behindAt s 206)) s)
+
+head-test : (s : Bytes) (at : ℕ) → Bytewise s → at + 100 ≤ length s → headTest s at ≡ true
+unfolding headTest
+head-test s at w h =
+    let c : length (take 4 (drop at s)) ≡ 4 = length-part s at 4 (omega arith) in
+    let e = number-lt (take 4 (drop at s)) (all-take _ 4 (drop at s) (all-drop _ at s w)) in
+    rw (
+      le-leb (at + 4) (length s) (omega arith),
+      le-leb (at + 36) (length s) (omega arith),
+      le-leb (at + 68) (length s) (omega arith),
+      le-leb (at + 100) (length s) h,
+      le-leb 0 (number (take 4 (drop at s))) (omega arith),
+      le-leb (number (take 4 (drop at s))) epochMost (omega (arith, rw c at e)),
+    )
+
+-- ---- the tests that the code makes of the whole
+
+module _ (s : Bytes) where
+  pub audit-short : length s < 206 → inLayout (parse auditField s) ≡ false
+  unfolding auditTest headTest
+  audit-short h = audit-whole s ∙ rw (lt-leb 206 (length s) h) (simp and-false)
+
+  pub audit-closed : same (take 6 s) (0x56 ∷ 0x4B ∷ 0x44 ∷ 0 ∷ 1 ∷ 3 ∷ []) ≡ false → inLayout (parse auditField s) ≡ false
+  unfolding auditTest opensTest be
+  audit-closed e = audit-whole s ∙ rw e
+
+  pub audit-none : afterRead s (listField .read (drop 206 s)) ≡ Nowhere → inLayout (parse auditField s) ≡ false
+  unfolding auditTest
+  audit-none q = audit-whole s ∙ rw (no-list s 206 q) (simp and-false)
+
+  pub audit-ends : Bytewise s → 206 ≤ length s → same (take 6 s) (0x56 ∷ 0x4B ∷ 0x44 ∷ 0 ∷ 1 ∷ 3 ∷ []) ≡ true
+      → (e : ℕ) → afterRead s (listField .read (drop 206 s)) ≡ At e → inLayout (parse auditField s) ≡ inLayout (parse listField (drop e s))
+  unfolding auditTest opensTest be
+  audit-ends w h o e q =
+      let (t, b) = one-list s 206 e q in
+      audit-whole s ∙ rw (o, head-test s 6 w (omega arith), head-test s 106 w (omega arith), t, b) (sym (list-whole s e))
+
+-- what an audit in layout says of its bytes
+pub audit-reads : (s : Bytes) → inLayout (parse auditField s) ≡ true → parse auditField s ≡ got (auditAt s) []
+audit-reads s e = ap whole (audit-at s .reads) ∙ whole-got (auditTest s) (auditAt s) _ (sym (ap (λ m. inLayout (whole m)) (audit-at s .reads)) ∙ e)
+
+pub audit-laid : (s : Bytes) → Bytewise s → inLayout (parse auditField s) ≡ true → Laid s
+unfolding auditTest
+audit-laid s w e =
+    let t = and-left (auditTest s) _ (sym (audit-whole s) ∙ e) in
+    let heads = and-right (opensTest s) _ t in
+    let second = and-right (headTest s 6) _ heads in
+    let lists = and-right (headTest s 106) _ second in
+    record {
+      long = by-cases (decLe 206 (length s)) (λ h. h) (λ n. not-both e (audit-short s (omega arith)));
+      all = list-tells s 206 w (and-left _ _ lists);
+      old = list-tells s (behindAt s 206) w (and-right (listTest s 206) _ lists);
+    }
+
+pub audit-bad : (s : Bytes) → inLayout (parse auditField s) ≡ false → parse auditField s ≡ bad
+audit-bad s e = by (parse auditField s) e
+  where
+    by : (m : Read Audit) → inLayout m ≡ false → m ≡ bad
+    by (got a r) e = not-both refl e
+    by bad e = refl

@@ -1,0 +1,6 @@
+-- What the layout reads at a place, for the crates above too.
+pub mod At
+pub mod Fields
+pub mod Record
+pub mod Form
+pub mod Places

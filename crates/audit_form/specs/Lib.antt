@@ -1,0 +1,3 @@
+-- What the contracts of the audit's layout cite.
+pub mod Places
+pub mod Walk

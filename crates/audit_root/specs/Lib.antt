@@ -1,0 +1,2 @@
+-- What the contracts of the audit's roots cite.
+pub mod Built

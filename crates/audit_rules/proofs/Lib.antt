@@ -1,0 +1,2 @@
+-- Laws of an audit list's rules.
+pub mod Rules
