@@ -1,9 +1,9 @@
 -- The tests of an audit in parts: what a part's verdict says of the whole, and the digests that a list takes. Assumes nothing.
-use mathlib.Core.Path.{_≡_, refl, sym, ap, ap₂, _∙_}
-use mathlib.Core.Logic.{_⊎_, inl, inr, ⊎-elim}
-use mathlib.Core.Bool.{Bool, true, false, cond, _&&_, and-false}
+use mathlib.Core.Path.{_≡_, refl, sym, ap, _∙_}
+use mathlib.Core.Logic.{⊎-elim}
+use mathlib.Core.Bool.{true, false, cond, and-false}
 use mathlib.Core.List.{List, [], _∷_, _++_, map}
-use Prim.Native.Nat.{ℕ, zero, suc, _+_, _*_, _≤_}
+use Prim.Native.Nat.{ℕ, suc, _+_, _*_, _≤_}
 use native.Mathlib.Omega.{arith}
 use lib.ListN.{length, take, drop, length-append, length-map}
 use borrow.Author.Tests.{eq-eqb, ne-eqb}
@@ -17,7 +17,7 @@ use Rattle.paper.specs.Verdict.{Test, verdict}
 use Rattle.paper.specs.Audit.{AuditRecord, Audit, inOrder, olds, news, Which, ofAll, ofOld, listTests, auditTests, listStrings, auditStrings, auditField, auditRead, checkAudit}
 use Rattle.paper.specs.declared.AuditAnswer.{AuditAnswer}
 use Rattle.paper.specs.declared.AuditAnswer.the-variants as A
-use Rattle.paper.proofs.Verdicts.{Hold, FirstFails, verdict-cases, verdict-all, verdict-first}
+use Rattle.paper.proofs.Verdicts.{Hold, verdict-cases, verdict-all, verdict-first}
 use Rattle.paper.proofs.Lists.{and-left, and-both}
 use Rattle.audit_form.specs.Places.{recordsAt, headAt, countAt, behindAt, auditAt, Listed}
 use Rattle.audit_root.proofs.Step.{root-few}

@@ -1,18 +1,18 @@
 -- The tests of an audit record's fields, as the layout makes them and as bytes are compared. Assumes nothing.
-use mathlib.Core.Path.{_≡_, refl, sym, ap, ap₂, _∙_}
+use mathlib.Core.Path.{_≡_, refl, sym, ap, _∙_}
 use mathlib.Core.Logic.{⊎-elim}
-use mathlib.Core.Bool.{Bool, true, false, not, _&&_}
-use mathlib.Core.List.{List, [], _∷_, _++_}
-use Prim.Native.Nat.{ℕ, zero, suc, _+_, _-_, _*_, _^_, _≤_, _<_}
+use mathlib.Core.Bool.{true, false, not, _&&_}
+use mathlib.Core.List.{[], _∷_, _++_}
+use Prim.Native.Nat.{ℕ, zero, suc, _*_, _^_, _≤_, _<_}
 use native.Mathlib.Omega.{arith}
 use lib.Dec.{eqb}
-use lib.ListN.{length, take, drop, getD, replicate, length-append, length-take, length-drop, length-replicate, take-append-drop}
+use lib.ListN.{length, take, drop, getD, replicate, length-append, length-drop, length-replicate, take-append-drop}
 use lib.Seq.{drop-at, length-take-le}
 use borrow.Author.Tests.{eq-eqb, ne-eqb}
-use Rattle.paper.specs.Lists.{All, every}
+use Rattle.paper.specs.Lists.{every}
 use Rattle.paper.specs.Bytes.{Bytes, Bytewise, be, number, same, zeros}
 use Rattle.paper.specs.Bits.{Bits, bitsOf, pack}
-use Rattle.paper.proofs.Lists.{true-or-false, not-both, and-left, and-right}
+use Rattle.paper.proofs.Lists.{true-or-false, not-both}
 use Rattle.paper.proofs.Bytes.{same-eq, eq-same, number-be, be-number, bitsOf-length, bitsOf-pack, pack-bitsOf, pack-fill}
 use Rattle.words.proofs.Compare.{not-same}
 

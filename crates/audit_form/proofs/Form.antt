@@ -1,25 +1,24 @@
 -- What an audit's layout reads at the place of records, of a list, of a head, and in the whole proof. Assumes nothing.
-use mathlib.Core.Path.{_≡_, refl, sym, ap, ap₂, _∙_, subst}
-use mathlib.Core.Logic.{⊎-elim, by-cases}
+use mathlib.Core.Path.{_≡_, refl, sym, ap, _∙_}
+use mathlib.Core.Logic.{by-cases}
 use mathlib.Core.Bool.{Bool, true, false, cond, _&&_, and-false}
 use mathlib.Core.List.{List, [], _∷_, _++_}
 use Prim.Native.Nat.{ℕ, zero, suc, _+_, _-_, _*_, _≤_, _<_}
 use native.Mathlib.Omega.{arith}
 use native.Mathlib.Decide.{decLe}
 use lib.Dec.{leb, eqb, eqb·zero-suc, eqb·suc-suc}
-use lib.ListN.{length, take, drop, length-drop, drop-of-length-le}
-use borrow.Author.Tests.{le-leb, lt-leb, leb-true, leb-false}
+use lib.ListN.{length, take, drop, length-drop}
+use borrow.Author.Tests.{le-leb, lt-leb, leb-true}
 use Rattle.paper.specs.Numbers.{wide, auditMost, epochMost}
 use Rattle.paper.specs.Bytes.{Bytes, Bytewise, be, number, same}
-use Rattle.paper.specs.Layout.{Read, got, bad, Layout, andThen, times, timesRead, whole, parse}
-use Rattle.paper.specs.Fields.{headField, opens}
+use Rattle.paper.specs.Layout.{Read, got, bad, andThen, times, timesRead, whole, parse}
+use Rattle.paper.specs.Fields.{headField}
 use Rattle.paper.specs.Audit.{AuditRecord, auditRecordField, listField, Audit, auditField}
 use Rattle.paper.proofs.Lists.{not-both, and-left, and-right, all-take, all-drop}
 use Rattle.paper.proofs.Bytes.{number-lt}
 use Rattle.words.proofs.Pasted.{length-part}
 use Rattle.audit_form.specs.Places.{recordAt, recordsAt, headAt, countAt, behindAt, auditAt, Formed, Listed, Laid}
 use Rattle.audit_form.specs.Walk.{inLayout, afterRead}
-use Rattle.audit_form.specs.declared.After.{After}
 use Rattle.audit_form.specs.declared.After.the-variants.{At, Nowhere}
 use Rattle.audit_form.proofs.At.{ReadAt, block-at, fixed-at, within-at, seq-at, led-at, view-at, then-cond, over-cond}
 use Rattle.audit_form.proofs.Record.{in-layout-at, formed, record-at, record-short, record-tells}

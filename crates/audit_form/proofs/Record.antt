@@ -1,28 +1,28 @@
 -- What an audit's layout reads at the place of a record, and what that says of the record's bytes. Assumes nothing.
-use mathlib.Core.Path.{_≡_, refl, sym, ap, ap₂, _∙_, subst}
+use mathlib.Core.Path.{_≡_, refl, sym, ap, ap₂, _∙_}
 use mathlib.Core.Logic.{_⊎_, inl, inr, ⊎-elim, by-cases}
 use mathlib.Core.Bool.{Bool, true, false, cond, not, _&&_, and-true, and-false}
-use mathlib.Core.List.{List, [], _∷_, _++_}
-use Prim.Native.Nat.{ℕ, zero, suc, _+_, _-_, _*_, _≤_, _<_}
+use mathlib.Core.List.{[]}
+use Prim.Native.Nat.{ℕ, zero, suc, _+_, _≤_, _<_}
 use native.Mathlib.Omega.{arith}
 use native.Mathlib.Decide.{decLe}
 use lib.Dec.{leb, eqb}
-use lib.ListN.{length, take, drop, getD, length-take, length-drop, length-replicate}
-use lib.Seq.{take-all, length-take-le}
-use borrow.Author.Tests.{le-leb, lt-leb, leb-true, eqb-true}
+use lib.ListN.{length, take, drop, getD, length-take, length-drop}
+use lib.Seq.{take-all}
+use borrow.Author.Tests.{le-leb, lt-leb, leb-true}
 use Rattle.paper.specs.Lists.{every}
-use Rattle.paper.specs.Numbers.{wide, auditMost, epochMost}
+use Rattle.paper.specs.Numbers.{wide, epochMost}
 use Rattle.paper.specs.Bytes.{Bytes, Bytewise, be, number, same, zeros}
-use Rattle.paper.specs.Bits.{Bits, bitsOf, pack}
-use Rattle.paper.specs.Layout.{Read, got, bad, Layout, andThen, block, fixed, within, seq, led, times, timesRead, such, view, never}
-use Rattle.paper.specs.Fields.{digestField, epochField, labelField, prefixBody, prefixField, headField, opens}
-use Rattle.paper.specs.Audit.{AuditRecord, unchanged, opened, fresh, recordKind, recordOf, leafFields, unchangedFields, openedFields, freshFields, auditRecordField, listField, auditField}
+use Rattle.paper.specs.Bits.{bitsOf, pack}
+use Rattle.paper.specs.Layout.{got, bad, Layout, never}
+use Rattle.paper.specs.Fields.{prefixBody, prefixField}
+use Rattle.paper.specs.Audit.{unchanged, fresh, recordKind, recordOf, leafFields, unchangedFields, openedFields, freshFields, auditRecordField}
 use Rattle.paper.proofs.Lists.{not-both, and-left, and-right, all-take, all-drop}
 use Rattle.paper.proofs.Bytes.{same-eq, number-lt, bitsOf-length, pack-bitsOf}
 use Rattle.words.proofs.Number.{number-one}
 use Rattle.words.proofs.Compare.{not-same}
 use Rattle.words.proofs.Pasted.{length-part}
-use Rattle.audit_form.specs.Places.{labelAt, keyAt, recordBy, recordAt, recordsAt, Formed}
+use Rattle.audit_form.specs.Places.{labelAt, keyAt, recordBy, recordAt, Formed}
 use Rattle.audit_form.specs.Walk.{inLayout}
 use Rattle.audit_form.proofs.At.{ReadAt, block-at, fixed-at, within-at, seq-at, led-at, view-at, such-at}
 use Rattle.audit_form.proofs.Fields.{number-same, zeros-same, prefix-same}

@@ -1,6 +1,6 @@
 -- What a walk over bytes finds out of a layout's reading.
 use mathlib.Core.Bool.{Bool, true, false}
-use Prim.Native.Nat.{ℕ, _-_}
+use Prim.Native.Nat.{_-_}
 use lib.ListN.{length}
 use Rattle.paper.specs.Bytes.{Bytes}
 use Rattle.paper.specs.Layout.{Read, got, bad}

@@ -1,7 +1,7 @@
 -- A range in order is cut at the bit behind what its keys share: those with a 0 stand first, those with a 1 behind them. Assumes nothing.
 use mathlib.Core.Path.{_≡_, refl, sym, ap, _∙_}
 use mathlib.Core.Bool.{Bool, true, false, cond}
-use mathlib.Core.List.{List, [], _∷_, _++_}
+use mathlib.Core.List.{[], _++_}
 use Prim.Native.Nat.{ℕ, zero, suc, _+_, _-_, _*_, _≤_, _<_}
 use native.Mathlib.Omega.{arith}
 use lib.ListN.{length, take, drop, getD, length-take}
@@ -9,7 +9,7 @@ use lib.Seq.{getD-take}
 use Rattle.paper.specs.Lists.{All}
 use Rattle.paper.specs.Bytes.{Bytes, number}
 use Rattle.paper.specs.Bits.{Bits, Pfx, _▹_, bitsOf}
-use Rattle.paper.specs.Audit.{AuditRecord, recordKey}
+use Rattle.paper.specs.Audit.{recordKey}
 use Rattle.bit_order.proofs.Order.{Ordered, ordered-right, ones}
 use Rattle.bit_order.proofs.Cut.{pfx-goes-on}
 use Rattle.audit_form.specs.Places.{labelAt, keyAt, recordAt, recordsAt}

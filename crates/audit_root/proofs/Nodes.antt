@@ -3,21 +3,21 @@ use mathlib.Core.Path.{_≡_, refl, sym, ap, ap₂, _∙_}
 use mathlib.Core.Logic.{_⊎_, inl, inr, ⊎-elim}
 use mathlib.Core.Bool.{Bool, true, false, cond}
 use mathlib.Core.List.{List, [], _∷_, _++_, append-nil, cons≢nil}
-use Prim.Native.Nat.{ℕ, zero, suc, _+_, _*_, _≤_, _<_}
+use Prim.Native.Nat.{suc, _+_, _*_, _≤_}
 use native.Mathlib.Omega.{arith}
 use lib.Dec.{eqb}
 use lib.ListN.{length, length-append}
-use borrow.Author.Tests.{eq-eqb, ne-eqb}
+use borrow.Author.Tests.{ne-eqb}
 use Rattle.fips.specs.Sha256.{sha256}
 use Rattle.paper.specs.Lists.{All}
 use Rattle.paper.specs.Numbers.{wide}
-use Rattle.paper.specs.Bytes.{Bytes}
-use Rattle.paper.specs.Bits.{Bits, Pfx, pack}
+use Rattle.paper.specs.Bits.{Bits, pack}
 use Rattle.paper.specs.Strings.{Node, nothingString}
 use Rattle.paper.specs.Tree.{key, Tree, empty, one, fork, nodes, build, root}
 use Rattle.paper.specs.Audit.{AuditRecord, unchanged, opened, fresh, recordKey, olds, news}
 use Rattle.paper.proofs.Tree.{Free, Below, below-none}
-use Rattle.bit_order.proofs.Order.{Before, Ordered}
+use Rattle.paper.proofs.Order.{Before}
+use Rattle.bit_order.proofs.Order.{Ordered}
 use Rattle.bit_order.proofs.Sides.{Parts, root-parts, build-parts, build-few}
 use Rattle.audit_root.specs.Built.{built, grown, orNothing, joined, forked, nodesOf, recordNode}
 use Rattle.audit_root.specs.declared.Built.{Built}

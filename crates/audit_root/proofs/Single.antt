@@ -1,19 +1,18 @@
 -- A single record: the digest of its node, and the tree over it. Assumes nothing.
 use mathlib.Core.Path.{_≡_, refl, sym, ap, ap₂, _∙_}
-use mathlib.Core.Logic.{_⊎_, ⊎-elim}
 use mathlib.Core.Bool.{Bool, true, false}
-use mathlib.Core.List.{List, [], _∷_}
-use Prim.Native.Nat.{ℕ, zero, suc, _+_, _*_, _≤_, _<_}
+use mathlib.Core.List.{[], _∷_}
+use Prim.Native.Nat.{ℕ, zero, suc, _+_, _≤_}
 use native.Mathlib.Omega.{arith}
 use lib.ListN.{length, take, drop, getD}
 use lib.Seq.{length-take-le}
 use Rattle.fips.specs.Sha256.{sha256}
 use Rattle.paper.specs.Numbers.{wide}
-use Rattle.paper.specs.Bytes.{Bytes, number, zeros}
-use Rattle.paper.specs.Bits.{bitsOf, pack}
+use Rattle.paper.specs.Bytes.{Bytes, number}
+use Rattle.paper.specs.Bits.{bitsOf}
 use Rattle.paper.specs.Strings.{leafString, innerString}
-use Rattle.paper.specs.Tree.{digest, build}
-use Rattle.paper.specs.Audit.{AuditRecord, olds, news}
+use Rattle.paper.specs.Tree.{digest}
+use Rattle.paper.specs.Audit.{olds, news}
 use Rattle.paper.proofs.Lists.{not-both}
 use Rattle.paper.proofs.Tree.{below-one}
 use Rattle.audit_form.specs.Places.{labelAt, keyAt, recordBy, recordAt, recordsAt, Formed}

@@ -1,25 +1,25 @@
 -- One step of the recursion: the range is cut behind what its first and its last record share, and the tree over it joins the trees
 -- over the parts. And the root, which is cut at the first bit. Assumes nothing.
 use mathlib.Core.Path.{_≡_, refl, sym, ap, ap₂, _∙_, subst}
-use mathlib.Core.Logic.{⊎-elim, by-cases}
+use mathlib.Core.Logic.{by-cases}
 use mathlib.Core.Bool.{Bool, true, false, true≢false, false≢true}
 use mathlib.Core.List.{List, [], _∷_, _++_}
-use Prim.Native.Nat.{ℕ, zero, suc, _+_, _-_, _*_, _≤_, _<_}
+use Prim.Native.Nat.{ℕ, suc, _+_, _-_, _*_, _≤_, _<_}
 use native.Mathlib.Omega.{arith}
 use native.Mathlib.Decide.{decLe}
-use lib.ListN.{length, take, drop, getD, length-take}
+use lib.ListN.{length, take, drop, length-take}
 use Rattle.paper.specs.Lists.{All}
 use Rattle.paper.specs.Numbers.{wide}
 use Rattle.paper.specs.Bytes.{Bytes, number}
 use Rattle.paper.specs.Bits.{Bits, Pfx, _▹_, lcp, bitsOf, pack, firstDifference}
-use Rattle.paper.specs.Strings.{Node}
 use Rattle.paper.specs.Tree.{nodes, root}
 use Rattle.paper.specs.Audit.{AuditRecord, recordKey, inOrder}
 use Rattle.paper.proofs.Lists.{all-in, in-all, all-right}
-use Rattle.paper.proofs.Bits.{pfx-nil, pfx-trans, pfx-take, pfx-length, pfx-one-way, length-snoc, lcp-left, lcp-right, lcp-most}
+use Rattle.paper.proofs.Bits.{pfx-nil, pfx-trans, pfx-take, pfx-length, pfx-one-way, length-snoc, lcp-most}
 use Rattle.paper.proofs.Bytes.{bitsOf-length}
 use Rattle.paper.proofs.Tree.{Below}
-use Rattle.bit_order.proofs.Order.{Before, before-lcp, Ordered, in-order, order-left, order-right, ends-share, ends-longer}
+use Rattle.paper.proofs.Order.{Before, before-lcp}
+use Rattle.bit_order.proofs.Order.{Ordered, in-order, order-left, order-right, ends-share, ends-longer}
 use Rattle.bit_order.proofs.Cut.{pfx-is-take, uncut-lcp}
 use Rattle.bit_order.proofs.Sides.{Parts, ordered-free}
 use Rattle.audit_form.specs.Places.{labelAt, keyAt, recordAt, recordsAt, Formed, Listed}

@@ -3,18 +3,17 @@
 use mathlib.Core.Path.{_≡_, refl, sym, ap, _∙_}
 use mathlib.Core.Logic.{⊎-elim}
 use mathlib.Core.Bool.{Bool, true, false, _&&_}
-use mathlib.Core.List.{_++_}
 use Prim.Native.Nat.{ℕ, _<_, _≤_}
 use native.Mathlib.Omega.{arith}
 use lib.Dec.{ltb}
 use lib.ListN.{length, take, getD, length-take, List·getD-eq-default}
-use lib.Seq.{take-at, getD-take}
+use lib.Seq.{take-at}
 use borrow.Author.Tests.{lt-ltb, ltb-true, ltb-false}
 use Rattle.paper.specs.Bits.{Bits, Pfx, _▹_, lcp}
 use Rattle.paper.specs.Audit.{before?}
 use Rattle.paper.proofs.Lists.{true-or-false, not-both, and-left, and-right, and-both}
 use Rattle.paper.proofs.Bits.{pfx-refl, pfx-trans, pfx-take, pfx-full, pfx-length, pfx-compare, pfx-one-way, pfx-bit, length-snoc, lcp-left, lcp-right, lcp-most}
-use Rattle.bit_order.proofs.Order.{Before, before-lcp, test-before, before-test}
+use Rattle.paper.proofs.Order.{Before, before-lcp, test-before, before-test}
 
 -- a prefix is the first bits; behind it goes the next one
 pub pfx-is-take : {p x : Bits} → Pfx p x → p ≡ take (length p) x

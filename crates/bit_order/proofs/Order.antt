@@ -1,82 +1,21 @@
--- Bit order: two keys part at a bit that is 0 in the first and 1 in the second. Of a list in this order all keys share what its
--- first and its last share, and go on past that. Assumes nothing.
-use mathlib.Core.Path.{_≡_, refl, sym, ap, _∙_, subst}
-use mathlib.Core.Logic.{_⊎_, inl, inr, ⊎-elim}
-use mathlib.Core.Bool.{Bool, true, false, true≢false, false≢true}
+-- Of a list in bit order all keys share what its first and its last share, and go on past that. Assumes nothing.
+use mathlib.Core.Path.{_≡_, refl, ap, subst}
+use mathlib.Core.Logic.{inl, inr, ⊎-elim}
+use mathlib.Core.Bool.{Bool, true, false}
 use mathlib.Core.List.{List, [], _∷_, _++_}
-use Prim.Native.Nat.{ℕ, suc, _<_}
+use Prim.Native.Nat.{_<_}
 use native.Mathlib.Omega.{arith}
 use lib.ListN.{length}
 use Rattle.paper.specs.Lists.{_∈_, All}
-use Rattle.paper.specs.Bits.{Bits, Pfx, starts, _▹_, lcp}
+use Rattle.paper.specs.Bits.{Bits, Pfx, _▹_, lcp}
 use Rattle.paper.specs.Audit.{before?, inOrder, recordKey, AuditRecord}
 use Rattle.paper.proofs.Lists.{and-left, and-right, and-both, all-in, in-all, all-left, all-right, all-append}
-use Rattle.paper.proofs.Bits.{pfx-refl, pfx-trans, pfx-snoc, pfx-next, pfx-full, pfx-length, pfx-compare, pfx-one-way, length-snoc, starts-pfx, pfx-starts, lcp-left, lcp-right, lcp-most}
-
-pub record Before (x y : Bits) : Type 0 where
-  pub at : Bits
-  pub low : Pfx (at ▹ false) x
-  pub high : Pfx (at ▹ true) y
-
--- neither is a prefix of the other
-pub before-apart : (x y : Bits) → Before x y → (¬ Pfx x y) × (¬ Pfx y x)
-before-apart x y b = (
-  λ h. true≢false (pfx-one-way (b .at) true false (b .high) (pfx-trans (b .low) h)),
-  λ h. true≢false (pfx-one-way (b .at) true false (pfx-trans (b .high) h) (b .low)),
-)
-
-pub before-trans : (x y z : Bits) → Before x y → Before y z → Before x z
-before-trans x y z b c =
-    ⊎-elim
-    (λ h. ⊎-elim
-    (λ e. absurd (same-at e))
-    (λ (d, w). record { at = b .at; low = b .low; high = subst (λ t. Pfx (b .at ▹ t) z) (pfx-one-way (b .at) d true (pfx-trans w q) (b .high)) (pfx-trans w q′) })
-    (pfx-next h))
-    (λ h. ⊎-elim
-    (λ e. absurd (same-at (sym e)))
-    (λ (d, w). record { at = c .at; low = subst (λ t. Pfx (c .at ▹ t) x) (pfx-one-way (c .at) d false (pfx-trans w p) (c .low)) (pfx-trans w p′); high = c .high })
-    (pfx-next h))
-    (pfx-compare (b .at) (c .at) y p q)
-  where
-    p : Pfx (b .at) y
-    p = pfx-trans (pfx-snoc (b .at) true) (b .high)
-
-    p′ : Pfx (b .at) x
-    p′ = pfx-trans (pfx-snoc (b .at) false) (b .low)
-
-    q : Pfx (c .at) y
-    q = pfx-trans (pfx-snoc (c .at) false) (c .low)
-
-    q′ : Pfx (c .at) z
-    q′ = pfx-trans (pfx-snoc (c .at) true) (c .high)
-
-    same-at : b .at ≡ c .at → ⊥
-    same-at e = true≢false (pfx-one-way (c .at) true false (subst (λ t. Pfx (t ▹ true) y) e (b .high)) (c .low))
+use Rattle.paper.proofs.Bits.{pfx-refl, pfx-trans, pfx-snoc, pfx-next, pfx-length, pfx-compare, pfx-one-way, length-snoc, lcp-left, lcp-right}
+use Rattle.paper.proofs.Order.{Before, before-apart, before-trans, test-before}
 
 -- not both ways round
 pub before-once : (x y : Bits) → Before x y → Before y x → ⊥
 before-once x y b c = before-apart x x (before-trans x y x b c) .0 (pfx-refl x)
-
--- they part behind their longest common prefix
-pub before-lcp : (x y : Bits) (b : Before x y) → b .at ≡ lcp x y
-before-lcp x y b = ⊎-elim (λ e. e)
-    (λ (d, w). absurd (false≢true (pfx-one-way (b .at) false d (b .low) (pfx-trans w (lcp-left x y)) ∙ pfx-one-way (b .at) d true (pfx-trans w (lcp-right x y)) (b .high))))
-    (pfx-next (lcp-most (b .at) x y (pfx-trans (pfx-snoc (b .at) false) (b .low)) (pfx-trans (pfx-snoc (b .at) true) (b .high))))
-
--- the definition's test says what the relation says
-pub test-before : (x y : Bits) → before? x y ≡ true → Before x y
-unfolding before?
-test-before x y e = record {
-  at = lcp x y;
-  low = starts-pfx (lcp x y ▹ false) x (and-left _ _ e);
-  high = starts-pfx (lcp x y ▹ true) y (and-right (starts (lcp x y ▹ false) x) _ e);
-}
-
-pub before-test : (x y : Bits) → Before x y → before? x y ≡ true
-unfolding before?
-before-test x y b =
-    let e = before-lcp x y b in
-    and-both (pfx-starts (lcp x y ▹ false) x (rw e at (b .low))) (pfx-starts (lcp x y ▹ true) y (rw e at (b .high)))
 
 -- what lies between two has their common prefix
 between : (x y z : Bits) → Before x y → Before y z → Pfx (lcp x z) y

@@ -1,94 +1,44 @@
 -- The tree over a list that is cut into a part with the bit 0 and a part with the bit 1: the parts are the two sides. Assumes nothing.
-use mathlib.Core.Path.{_≡_, refl, sym, ap, ap₂, _∙_, subst}
-use mathlib.Core.Logic.{_⊎_, inl, inr, ⊎-elim}
-use mathlib.Core.Bool.{Bool, true, false, cond, true≢false, false≢true}
-use mathlib.Core.List.{List, [], _∷_, _++_, append-nil}
-use Prim.Native.Nat.{ℕ, zero, suc, _+_, _*_, _≤_, _<_}
+use mathlib.Core.Path.{_≡_, refl, ap, ap₂, _∙_}
+use mathlib.Core.Bool.{Bool, true, false, cond, false≢true}
+use mathlib.Core.List.{List, [], _∷_, _++_}
+use Prim.Native.Nat.{ℕ, zero, suc, _+_, _*_, _≤_}
 use native.Mathlib.Omega.{arith}
 use lib.ListN.{length, length-append}
-use Rattle.paper.specs.Lists.{_∈_, All, keep}
-use Rattle.paper.specs.Bits.{Bits, Pfx, starts, _▹_, lcp}
+use Rattle.paper.specs.Lists.{keep}
+use Rattle.paper.specs.Bits.{Bits, starts, _▹_}
 use Rattle.paper.specs.Strings.{Node}
-use Rattle.paper.specs.Tree.{key, Tree, empty, one, fork, nodes, common, side, build, root}
-use Rattle.paper.proofs.Lists.{true-or-false, all-in, in-all, all-append}
-use Rattle.paper.proofs.Bits.{pfx-trans, pfx-snoc, pfx-next, pfx-one-way, starts-pfx, pfx-starts}
-use Rattle.paper.proofs.Tree.{common-pfx, common-most, side-below, side-free, Apart, Free, sides-full, Below, below-more}
-use Rattle.bit_order.proofs.Order.{Before, before-apart, Ordered}
+use Rattle.paper.specs.Tree.{key, fork, nodes, common, side, build, root}
+use Rattle.paper.proofs.Lists.{all-in, in-all}
+use Rattle.paper.proofs.Bits.{pfx-one-way, starts-pfx}
+use Rattle.paper.proofs.Tree.{side-free, Apart, Free, sides-full, Below, below-more}
+use Rattle.paper.proofs.Order.{before-apart}
+use Rattle.paper.proofs.Rebuild.{Beyond, side-low, side-high, parts-common}
+use Rattle.bit_order.proofs.Order.{Ordered}
 
 -- bit order keeps each apart from the others
 pub ordered-free : (S : List Node) → Ordered key S → Free S
 ordered-free [] h = tt
 ordered-free (x ∷ S) h = (in-all (Apart x) S (λ y m. before-apart (key x) (key y) (all-in _ S (h .0) y m)), ordered-free S (h .1))
 
-side-every : (q : Bits) (S : List Node) → All (λ x. Pfx q (key x)) S → side q S ≡ S
-unfolding side keep
-side-every q [] h = refl
-side-every q (x ∷ S) h = rw (pfx-starts q (key x) (h .0)) (ap (λ l. x ∷ l) (side-every q S (h .1)))
-
-side-none : (q : Bits) (S : List Node) → All (λ x. ¬ Pfx q (key x)) S → side q S ≡ []
-unfolding side keep
-side-none q [] h = refl
-side-none q (x ∷ S) h = ⊎-elim (λ e. absurd (h .0 (starts-pfx q (key x) e))) (λ e. rw e (side-none q S (h .1))) (true-or-false (starts q (key x)))
-
-side-append : (q : Bits) (S T : List Node) → side q (S ++ T) ≡ side q S ++ side q T
-unfolding side keep
-side-append q [] T = refl
-side-append q (x ∷ S) T = by (starts q (key x)) (side-append q S T)
-  where
-    by : (b : Bool) → side q (S ++ T) ≡ side q S ++ side q T → cond b (x ∷ side q (S ++ T)) (side q (S ++ T)) ≡ cond b (x ∷ side q S) (side q S) ++ side q T
-    by true e = ap (λ l. x ∷ l) e
-    by false e = e
-
--- a part with the bit 0 and a part with the bit 1
+-- a part with the bit 0 behind p, and one with the bit 1
 pub record Parts (p : Bits) (S T : List Node) : Type 0 where
-  pub low : All (λ x. Pfx (p ▹ false) (key x)) S
-  pub high : All (λ x. Pfx (p ▹ true) (key x)) T
-
-other-way : (p : Bits) (c d : Bool) → ¬ (c ≡ d) → (S : List Node) → All (λ x. Pfx (p ▹ c) (key x)) S → All (λ x. ¬ Pfx (p ▹ d) (key x)) S
-other-way p c d n S h = in-all _ S (λ x m w. n (pfx-one-way p c d (all-in _ S h x m) w))
-
-pub side-left : (p : Bits) (S T : List Node) → Parts p S T → side (p ▹ false) (S ++ T) ≡ S
-side-left p S T h =
-    side-append (p ▹ false) S T
-    ∙ ap₂ (λ s t. s ++ t) (side-every _ S (h .low)) (side-none _ T (other-way p true false true≢false T (h .high)))
-    ∙ append-nil S
-
-pub side-right : (p : Bits) (S T : List Node) → Parts p S T → side (p ▹ true) (S ++ T) ≡ T
-side-right p S T h =
-    side-append (p ▹ true) S T
-    ∙ ap₂ (λ s t. s ++ t) (side-none _ S (other-way p false true false≢true S (h .low))) (side-every _ T (h .high))
+  pub low : Beyond p false S
+  pub high : Beyond p true T
 
 -- the root over the two parts
 pub root-parts : (S T : List Node) → Parts [] S T → root (S ++ T) ≡ fork [] (build 256 S) (build 256 T)
 unfolding root
-root-parts S T h = ap₂ (λ s t. fork [] (build 256 s) (build 256 t)) (side-left [] S T h) (side-right [] S T h)
+root-parts S T h = ap₂ (λ s t. fork [] (build 256 s) (build 256 t)) (side-low [] S T (h .low) (h .high)) (side-high [] S T (h .low) (h .high))
 
--- neither part is empty: their common prefix is the one behind which they part
-common-parts : (p : Bits) (x : Node) (S : List Node) (y : Node) (T : List Node) → Parts p (x ∷ S) (y ∷ T) → common x (S ++ (y ∷ T)) ≡ p
-common-parts p x S y T h = ⊎-elim (λ e. sym e)
-    (λ (d, w). absurd (false≢true (pfx-one-way p false d (h .low .0) (pfx-trans w (common-pfx x l x (inl refl))) ∙ pfx-one-way p d true (pfx-trans w (common-pfx x l y (inr (in-behind S)))) (h .high .0))))
-    (pfx-next (common-most p x l shared))
-  where
-    l : List Node
-    l = S ++ (y ∷ T)
-
-    shared : All (λ z. Pfx p (key z)) (x ∷ l)
-    shared = all-append _ (x ∷ S) (y ∷ T)
-        (in-all _ (x ∷ S) (λ z m. pfx-trans (pfx-snoc p false) (all-in _ (x ∷ S) (h .low) z m)))
-        (in-all _ (y ∷ T) (λ z m. pfx-trans (pfx-snoc p true) (all-in _ (y ∷ T) (h .high) z m)))
-
-    in-behind : (S : List Node) → y ∈ (S ++ (y ∷ T))
-    in-behind [] = inl refl
-    in-behind (z ∷ S) = inr (in-behind S)
-
--- and the tree over both is a fork there
+-- neither part is empty: the tree over both is a fork where they part
 pub build-parts : (p : Bits) (x : Node) (S : List Node) (y : Node) (T : List Node) → Parts p (x ∷ S) (y ∷ T) → Below (x ∷ (S ++ (y ∷ T)))
     → build 256 (x ∷ (S ++ (y ∷ T))) ≡ fork p (build 256 (x ∷ S)) (build 256 (y ∷ T))
 build-parts p x S y T h b =
-    let e = common-parts p x S y T h in
+    let e = parts-common p x S y T (h .low) (h .high) in
     more S b
     ∙ ap (λ q. fork q (build 256 (side (q ▹ false) (x ∷ (S ++ (y ∷ T))))) (build 256 (side (q ▹ true) (x ∷ (S ++ (y ∷ T)))))) e
-    ∙ ap₂ (λ s t. fork p (build 256 s) (build 256 t)) (side-left p (x ∷ S) (y ∷ T) h) (side-right p (x ∷ S) (y ∷ T) h)
+    ∙ ap₂ (λ s t. fork p (build 256 s) (build 256 t)) (side-low p (x ∷ S) (y ∷ T) (h .low) (h .high)) (side-high p (x ∷ S) (y ∷ T) (h .low) (h .high))
   where
     more : (S : List Node) → Below (x ∷ (S ++ (y ∷ T)))
         → build 256 (x ∷ (S ++ (y ∷ T)))

@@ -1,18 +1,15 @@
 -- A checker accepts exactly where the bytes have the layout and every test holds: what an accepted answer tells, and the way back.
 -- Assumes nothing.
-use mathlib.Core.Path.{_≡_, refl, sym, ap, _∙_, subst}
-use mathlib.Core.Bool.{Bool, true, false, _&&_}
-use mathlib.Core.List.{List, [], _∷_, _++_}
-use Prim.Native.Nat.{ℕ, zero, suc, _<_}
+use mathlib.Core.Path.{_≡_, refl, sym, ap, _∙_}
+use mathlib.Core.List.{List, [], _∷_}
+use Prim.Native.Nat.{ℕ}
 use native.Mathlib.Omega.{arith}
 use lib.ListN.{length}
-use Rattle.paper.specs.Lists.{All}
-use Rattle.paper.specs.Bytes.{Bytes, Bytewise}
+use Rattle.paper.specs.Bytes.{Bytes}
 use Rattle.paper.specs.Strings.{Head}
 use Rattle.paper.specs.Labelling.{Labelling}
 use Rattle.paper.specs.Path.{Path}
 use Rattle.paper.specs.Layout.{Read, got, bad, whole, parse}
-use Rattle.paper.specs.Verdict.{Test, verdict}
 use Rattle.paper.specs.Shows.{Asked, Terms, Proof, pathTests, proofTests, inputTests}
 use Rattle.paper.specs.Lookup.{lookupAsked, lookupField, lookupTerms, lookupStrings, lookupGives, lookupRead, checkLookup}
 use Rattle.paper.specs.History.{historyAsked, historyField, historyTerms, historyStrings, historyRead, checkHistory}
@@ -22,8 +19,6 @@ use Rattle.paper.specs.declared.LookupAnswer.the-variants as L
 use Rattle.paper.specs.declared.HistoryAnswer.the-variants as H
 use Rattle.paper.specs.declared.AuditAnswer.the-variants as A
 use Rattle.paper.proofs.Verdicts.{Hold, Numbered, accepted, verdict-all}
-use Rattle.paper.proofs.Layouts.{Lawful, bytes-parse}
-use Rattle.paper.proofs.Proofs.{lookup-lawful, history-lawful, audit-lawful}
 
 -- nothing stands behind what is read of the whole bytes
 pub whole-behind : {A : Type 0} (m : Read A) (x : A) (b : ℕ) (r : Bytes) → whole m ≡ got x (b ∷ r) → ⊥

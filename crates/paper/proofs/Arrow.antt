@@ -1,6 +1,6 @@
 -- Demand 3, down to the bytes: an accepted lookup agrees with an accepted history at the end of a run of accepted audit steps, or two
 -- different strings among those that these checks hashed have one digest. For any server, and any labelling. Assumes nothing.
-use mathlib.Core.Path.{_≡_, refl, sym, ap, ap₂, _∙_, subst}
+use mathlib.Core.Path.{_≡_, refl, sym, ap, _∙_, subst}
 use mathlib.Core.Logic.{_⊎_, inl, inr, ⊎-elim, by-cases}
 use mathlib.Core.Bool.{Bool, true, false, cond}
 use mathlib.Core.List.{List, [], _∷_, _++_, map, map-append, append-nil}
@@ -11,16 +11,16 @@ use lib.Dec.{leb}
 use lib.ListN.{length}
 use borrow.Author.Tests.{le-leb, lt-leb}
 use Rattle.fips.proofs.Size.{sha256-length}
-use Rattle.paper.specs.Lists.{_∈_, All, keep, upFrom}
+use Rattle.paper.specs.Lists.{All, keep, upFrom}
 use Rattle.paper.specs.Bytes.{Bytes, Bytewise}
 use Rattle.paper.specs.Bits.{Bits}
 use Rattle.paper.specs.Strings.{Head}
 use Rattle.paper.specs.Labelling.{Labelling, Sized, plain}
-use Rattle.paper.specs.Layout.{Read, got, bad, parse}
+use Rattle.paper.specs.Layout.{parse}
 use Rattle.paper.specs.Shows.{Proof, Place, labelAt}
 use Rattle.paper.specs.Lookup.{lookupField, lookupAsked, lookupKeys, lookupTerms, lookupGives, lookupStrings, checkLookup, acceptedKey}
-use Rattle.paper.specs.History.{historyField, historyAsked, historyTerms, historyStrings, checkHistory}
-use Rattle.paper.specs.Audit.{auditField, auditStrings, checkAudit}
+use Rattle.paper.specs.History.{historyAsked, historyTerms, historyStrings, checkHistory}
+use Rattle.paper.specs.Audit.{auditField, auditStrings}
 use Rattle.paper.specs.Answer.{lookupNumber, historyNumber, answeredVersion, answeredEpoch, historyEpoch}
 use Rattle.paper.specs.declared.LookupAnswer.{LookupAnswer}
 use Rattle.paper.specs.declared.HistoryAnswer.{HistoryAnswer}
@@ -32,8 +32,8 @@ use Rattle.paper.proofs.Fits.{proof-fits, head-fits}
 use Rattle.paper.proofs.Chain.{Hashed, Chain, here, more, stepsIn, chain-epochs}
 use Rattle.paper.proofs.Collide.{OneToOne, collide-or-not, hashedIn}
 use Rattle.paper.proofs.Shown.{Within, label-size}
-use Rattle.paper.proofs.Agree.{Current, LookedUp, nobody, somebody, Registered, agree}
-use Rattle.paper.proofs.Accepted.{LookupTold, HistoryTold, AuditTold, lookup-told, history-told, audit-told}
+use Rattle.paper.proofs.Agree.{Current, LookedUp, nobody, somebody, agree}
+use Rattle.paper.proofs.Accepted.{lookup-told, history-told, audit-told}
 use Rattle.paper.proofs.Facts.{opens, lookup-says, history-says, audit-says}
 
 -- ---- the version that was current

@@ -1,30 +1,29 @@
 -- Demand 2, the honest way, for audits: the step into an epoch, from records in shape, is accepted between the two heads. Stated once
 -- over the labelling. Assumes nothing.
-use mathlib.Core.Path.{_≡_, refl, sym, ap, ap₂, _∙_, subst}
-use mathlib.Core.Logic.{_⊎_, inl, inr, ⊎-elim, _↔_}
-use mathlib.Core.Bool.{Bool, true, false, cond, not, _&&_}
+use mathlib.Core.Path.{_≡_, refl, sym, ap, _∙_, subst}
+use mathlib.Core.Logic.{inl, inr, ⊎-elim}
+use mathlib.Core.Bool.{Bool, true, false, cond, not}
 use mathlib.Core.List.{List, [], _∷_, _++_, flatMap}
-use Prim.Native.Nat.{ℕ, zero, suc, _+_, _-_, _*_, _^_, _<_, _≤_}
+use Prim.Native.Nat.{ℕ, suc, _-_, _*_, _^_, _<_, _≤_}
 use native.Mathlib.Omega.{arith}
 use native.Mathlib.Nat.{suc-mul}
 use lib.Dec.{eqb, leb, ltb}
 use lib.ListN.{length, length-append}
-use borrow.Author.Tests.{leb-true, le-leb, eqb-true, eqb-false, eq-eqb, ne-eqb, not-true}
+use borrow.Author.Tests.{leb-true, le-leb, eqb-false, eq-eqb, ne-eqb, not-true}
 use Rattle.fips.proofs.Size.{sha256-length}
-use Rattle.paper.specs.Lists.{_∈_, All, every, keep}
+use Rattle.paper.specs.Lists.{_∈_, All, keep}
 use Rattle.paper.specs.Numbers.{wide, recordsMost, auditMost}
-use Rattle.paper.specs.Bytes.{Bytes, zeros, same}
+use Rattle.paper.specs.Bytes.{Bytes, zeros}
 use Rattle.paper.specs.Bits.{log2}
-use Rattle.paper.specs.Strings.{Node, leaf, inner, nothing, Kind, version, marker, Head}
+use Rattle.paper.specs.Strings.{Node, leaf, inner, nothing, version, marker}
 use Rattle.paper.specs.Labelling.{Labelling, Sized}
-use Rattle.paper.specs.Tree.{root, rootDigest}
+use Rattle.paper.specs.Tree.{root}
 use Rattle.paper.specs.Layout.{fixed, within, seq, led, times, view}
-use Rattle.paper.specs.Fields.{headField}
-use Rattle.paper.specs.Audit.{AuditRecord, Audit, auditRecordField, listField, auditField, inOrder, Which, ofAll, ofOld, commitmentIn, recordRule, auditInputTests, auditTests, auditStrings, checkAudit}
+use Rattle.paper.specs.Audit.{AuditRecord, Audit, auditRecordField, listField, auditField, ofAll, ofOld, auditInputTests, auditTests, auditStrings, checkAudit}
 use Rattle.paper.specs.Table.{Record, inShape, follows, byEpoch, leafOf, allLeaves, oldLeaves, allAt, oldAt, headOf, headDigest, headAt, previousHead, distinct}
 use Rattle.paper.specs.Write.{belowRoot, auditProof}
 use Rattle.paper.specs.declared.AuditAnswer.the-variants as A
-use Rattle.paper.proofs.Lists.{all-in, in-all, all-append, and-left, and-right, and-both, keep-in, in-keep, keep-all, keep-passes, in-left, in-right, in-append}
+use Rattle.paper.proofs.Lists.{all-in, in-all, and-left, and-right, and-both, keep-in, in-keep, keep-passes, in-append}
 use Rattle.paper.proofs.Bytes.{same-refl, eq-same}
 use Rattle.paper.proofs.Tree.{SameSet}
 use Rattle.paper.proofs.Verdicts.{Hold}
@@ -34,7 +33,7 @@ use Rattle.paper.proofs.Accepted.{audit-accept}
 use Rattle.paper.proofs.Fits.{Wide, digest-wide}
 use Rattle.paper.proofs.Fit.{head-fit}
 use Rattle.paper.proofs.Honest.{LeafSet, distinct-set}
-use Rattle.paper.proofs.Records.{Follows, follows-facts}
+use Rattle.paper.proofs.Records.{follows-facts}
 use Rattle.paper.proofs.Leaves.{RecordFits, all-at-sized, old-at-sized, in-flat, all-flat}
 use Rattle.paper.proofs.Cut.{isOld}
 use Rattle.paper.proofs.Audited.{list-order, list-new, list-old, list-fits, LeafRuled, list-rules, list-few}

@@ -1,30 +1,28 @@
 -- The audit list of an honest tree: it fits, obeys the rules, and builds the old root and the new one. Assumes nothing.
 use mathlib.Core.Path.{_≡_, refl, sym, ap, ap₂, _∙_, subst}
-use mathlib.Core.Logic.{_⊎_, inl, inr, ⊎-elim, _↔_}
-use mathlib.Core.Bool.{Bool, true, false, cond, not, _&&_, _||_, false≢true}
+use mathlib.Core.Logic.{inl, inr}
+use mathlib.Core.Bool.{Bool, true, false, cond, _||_, false≢true}
 use mathlib.Core.List.{List, [], _∷_, _++_}
-use Prim.Native.Nat.{ℕ, zero, suc, _+_, _*_, _^_, _<_, _≤_}
+use Prim.Native.Nat.{ℕ, zero, suc, _+_, _<_, _≤_}
 use native.Mathlib.Omega.{arith}
 use lib.Dec.{eqb, leb}
 use lib.ListN.{length, length-append}
-use borrow.Author.Tests.{eqb-true, eq-eqb, eqb-false, le-leb, not-true}
+use borrow.Author.Tests.{eqb-true, eq-eqb, eqb-false, le-leb}
 use Rattle.paper.specs.Lists.{_∈_, All, every, keep}
-use Rattle.paper.specs.Numbers.{wide}
-use Rattle.paper.specs.Bytes.{Bytes, zeros, same}
+use Rattle.paper.specs.Bytes.{Bytes}
 use Rattle.paper.specs.Bits.{Bits, Pfx, starts, _▹_}
 use Rattle.paper.specs.Strings.{Node, leaf, inner, nothing}
-use Rattle.paper.specs.Tree.{key, digest, Tree, empty, one, fork, top, common, side, build, root, rootDigest}
-use Rattle.paper.specs.Audit.{AuditRecord, unchanged, opened, fresh, recordKey, olds, news, inOrder, Which, ofAll, ofOld, commitmentIn, recordRule, auditRecordField}
+use Rattle.paper.specs.Tree.{key, digest, Tree, empty, top, common, side, build, root, rootDigest}
+use Rattle.paper.specs.Audit.{AuditRecord, unchanged, opened, fresh, recordKey, olds, news, inOrder, Which, commitmentIn, recordRule, auditRecordField}
 use Rattle.paper.specs.Write.{hasNew, subtrees, belowRoot}
-use Rattle.paper.proofs.Lists.{all-in, in-all, all-left, all-right, all-append, and-both, all-every, keep-in, in-keep, keep-all, keep-passes, in-append, in-left, in-right}
-use Rattle.paper.proofs.Bits.{pfx-trans, pfx-snoc, pfx-length, length-snoc, pfx-one-way, starts-pfx}
-use Rattle.paper.proofs.Bytes.{same-refl}
+use Rattle.paper.proofs.Lists.{all-in, in-all, all-left, all-right, all-append, and-both, all-every, keep-in, in-keep, keep-passes, in-left, in-right}
+use Rattle.paper.proofs.Bits.{pfx-trans, pfx-length, length-snoc, pfx-one-way, starts-pfx}
 use Rattle.paper.proofs.Tree.{Free, Apart, SameSet, common-next, common-most, side-all, side-below, in-side, side-in, side-free, keep-free, below-none, build-same, root-same}
-use Rattle.paper.proofs.Fits.{Wide, digest-wide}
-use Rattle.paper.proofs.Fit.{RecordSized, record-fit}
+use Rattle.paper.proofs.Fits.{digest-wide}
+use Rattle.paper.proofs.Fit.{record-fit}
 use Rattle.paper.proofs.Way.{Grown, single, forked, build-grown, entries, IsLeaf, grown-length, build-entries}
 use Rattle.paper.proofs.Honest.{LeafSized, LeafSet, leaf-label, leaf-is}
-use Rattle.paper.proofs.Rebuild.{Beyond, side-low, side-high, grown-below}
+use Rattle.paper.proofs.Rebuild.{side-low, side-high, grown-below}
 use Rattle.paper.proofs.Cut.{news-append, olds-append, news-builds, isOld, Match, bare, full, olds-match, cut-keys, order-parts, cut-order, cut-few}
 
 -- ---- what stands alone in a tree over a list is the list's

@@ -1,9 +1,9 @@
 -- Laws of prefixes and of the longest common prefix. Assumes nothing.
-use mathlib.Core.Path.{_≡_, refl, sym, ap, _∙_, subst}
+use mathlib.Core.Path.{_≡_, refl, sym, ap, _∙_}
 use mathlib.Core.Logic.{_⊎_, inl, inr, ⊎-elim}
-use mathlib.Core.Bool.{Bool, true, false, cond, _&&_, Bool·beq}
-use mathlib.Core.List.{List, [], _∷_, _++_, append-assoc, append-nil, append-cancel-left, cons≢nil, head-eq-of-cons-eq, tail-eq-of-cons-eq}
-use Prim.Native.Nat.{ℕ, zero, suc, _+_, _≤_, _<_}
+use mathlib.Core.Bool.{Bool, true, false, Bool·beq}
+use mathlib.Core.List.{[], _∷_, _++_, append-assoc, append-nil, append-cancel-left, cons≢nil, head-eq-of-cons-eq, tail-eq-of-cons-eq}
+use Prim.Native.Nat.{ℕ, suc, _≤_, _<_}
 use native.Mathlib.Omega.{arith}
 use lib.ListN.{length, length-append, take, drop, getD, take-append-drop}
 use lib.Seq.{take-suc}

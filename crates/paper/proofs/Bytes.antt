@@ -1,8 +1,8 @@
 -- Numbers and bits in bytes: each way back and forth. Assumes nothing.
 use mathlib.Core.Path.{_≡_, refl, sym, ap, ap₂, _∙_, subst}
-use mathlib.Core.Logic.{_⊎_, inl, inr, ⊎-elim, by-cases}
+use mathlib.Core.Logic.{⊎-elim, by-cases}
 use mathlib.Core.Bool.{Bool, true, false, _&&_}
-use mathlib.Core.List.{List, [], _∷_, _++_, append-assoc, head-eq-of-cons-eq, tail-eq-of-cons-eq}
+use mathlib.Core.List.{[], _∷_, _++_}
 use Prim.Native.Nat.{ℕ, zero, suc, _+_, _*_, _/_, _%_, _^_, _<_, _≤_}
 use native.Mathlib.Nat.{mod-lt, zero-div, zero-mod, div-add-mod', div-lt-iff-lt-mul, mul-add-div-right, mul-add-mod-self-right, mod-eq-of-lt, div-eq-of-lt, add-zero}
 use native.Mathlib.Omega.{arith}
@@ -12,7 +12,6 @@ use lib.Seq.{drop-at, drop-nil}
 use lib.Pow.{pow-pos, split, high, low, areBytes}
 use lib.Dec.{T, leb, ltb, eqb}
 use borrow.Author.Tests.{eqb-true, eqb-false, eq-eqb, ne-eqb, ltb-true}
-use Rattle.paper.specs.Lists.{All}
 use Rattle.paper.specs.Bytes.{Bytes, Bytewise, be, number, same}
 use Rattle.paper.specs.Bits.{Bits, Pfx, toBits, fromBits, bitVal, bitsOf, pack}
 use Rattle.paper.proofs.Lists.{and-left, and-right, and-both, not-both, true-or-false}

@@ -1,20 +1,18 @@
 -- A list of strings has two that collide, or none: then what was hashed is determined by its digest. Assumes nothing.
-use mathlib.Core.Path.{_≡_, refl, sym, ap, _∙_}
+use mathlib.Core.Path.{_≡_, sym, _∙_}
 use mathlib.Core.Logic.{_⊎_, inl, inr, ⊎-elim}
 use mathlib.Core.HLevel.{Discrete}
-use mathlib.Core.List.{List, [], _∷_, _++_, List-discrete}
-use Prim.Native.Nat.{ℕ, zero, suc, _<_, _≤_}
+use mathlib.Core.List.{List, [], List-discrete}
 use native.Mathlib.Decide.{ℕ-discrete}
 use lib.ListN.{length}
 use Rattle.fips.specs.Sha256.{sha256}
 use Rattle.paper.specs.Lists.{_∈_, All}
 use Rattle.paper.specs.Numbers.{wide}
 use Rattle.paper.specs.Bytes.{Bytes}
-use Rattle.paper.specs.Strings.{Node, nodeString, Head, headString, commitmentString}
+use Rattle.paper.specs.Strings.{nodeString, headString, commitmentString}
 use Rattle.paper.specs.Arrow.{Collision}
 use Rattle.paper.proofs.Lists.{all-in, some-or-all}
 use Rattle.paper.proofs.Strings.{NodeSized, HeadSized, node-inj, head-inj, commitment-inj}
-use Rattle.paper.proofs.Walk.{World}
 use Rattle.paper.proofs.Chain.{Hashed}
 
 abbrev pub OneToOne : List Bytes → Type 0

@@ -1,34 +1,34 @@
 -- Demand 2, the honest way, for lookups and histories: what the writers' definitions give for records in shape fits the layout and passes
 -- every test at the head of its epoch. Stated once over the labelling. Assumes nothing.
-use mathlib.Core.Path.{_≡_, refl, sym, ap, ap₂, _∙_, subst}
-use mathlib.Core.Logic.{_⊎_, inl, inr, ⊎-elim, by-cases}
-use mathlib.Core.Bool.{Bool, true, false, cond, not, _&&_, _||_}
-use mathlib.Core.List.{List, [], _∷_, _++_, map}
-use Prim.Native.Nat.{ℕ, zero, suc, _+_, _-_, _*_, _^_, _<_, _≤_}
+use mathlib.Core.Path.{_≡_, refl, sym, ap, _∙_, subst}
+use mathlib.Core.Logic.{inl, inr, by-cases}
+use mathlib.Core.Bool.{true, not, _||_}
+use mathlib.Core.List.{List, [], _∷_, map}
+use Prim.Native.Nat.{ℕ, zero, suc, _-_, _^_, _<_, _≤_}
 use native.Mathlib.Omega.{arith}
 use native.Mathlib.Decide.{decLe}
 use lib.Pow.{pow-pos, pow-mono}
-use lib.Dec.{eqb, leb, ltb}
+use lib.Dec.{leb, ltb}
 use lib.ListN.{length, getD, length-map}
 use borrow.Author.Tests.{le-leb, lt-ltb, eq-eqb, not-true}
 use Rattle.fips.specs.Sha256.{sha256}
 use Rattle.fips.proofs.Size.{sha256-length}
-use Rattle.paper.specs.Lists.{_∈_, All, every}
+use Rattle.paper.specs.Lists.{_∈_, All}
 use Rattle.paper.specs.Numbers.{wide, versionMost}
 use Rattle.paper.specs.Bytes.{Bytes, zeros, same}
-use Rattle.paper.specs.Bits.{Bits, log2}
-use Rattle.paper.specs.Strings.{Node, leaf, Head, headString, commitmentString}
+use Rattle.paper.specs.Bits.{log2}
+use Rattle.paper.specs.Strings.{leaf, commitmentString}
 use Rattle.paper.specs.Labelling.{Labelling, Sized}
 use Rattle.paper.specs.Tree.{key, root, rootDigest}
 use Rattle.paper.specs.Path as P
-use Rattle.paper.specs.Path.{Path, End, this, epochOf, presentWith, lastLength, way, wayEnd, pathRoot}
+use Rattle.paper.specs.Path.{Path, this, epochOf, presentWith, way, wayEnd, pathRoot}
 use Rattle.paper.specs.Fields.{isName, pathField, headField}
 use Rattle.paper.specs.Shows.{Place, inAll, inOld, asMarker, Asked, present, missing, Item, itemField, Proof, Terms, labelAt, rootAt, meets, pathTests, proofTests, inputTests, epochAt, commitmentAt}
 use Rattle.paper.specs.Lookup.{lookupAsked, lookupKeys, lookupField, lookupTerms, lookupGives, lookupStrings, checkLookup}
 use Rattle.paper.specs.History.{historyAsked, historyField, historyTerms, historyStrings, checkHistory}
-use Rattle.paper.specs.Table.{Record, ownRecords, inShape, byEpoch, allAt, oldAt, headOf, headDigest, previousHead, holds, distinct, lastVersion}
-use Rattle.paper.specs.Write.{versionsBy, itemOf, lastItem, leavesAt, pathsOf, unclashed, lookupProof, historyProof}
-use Rattle.paper.proofs.Lists.{all-in, in-all, every-all, and-left, and-right, and-both, not-both, all-getD, getD-map-at}
+use Rattle.paper.specs.Table.{Record, inShape, allAt, oldAt, headOf, headDigest, previousHead, holds, distinct, lastVersion}
+use Rattle.paper.specs.Write.{versionsBy, itemOf, lastItem, leavesAt, unclashed, lookupProof, historyProof}
+use Rattle.paper.proofs.Lists.{all-in, in-all, every-all, and-left, and-right, and-both, all-getD, getD-map-at}
 use Rattle.paper.proofs.Bytes.{eq-same, same-refl}
 use Rattle.paper.proofs.Marker.{log2-spec}
 use Rattle.paper.proofs.Verdicts.{Hold}
@@ -37,7 +37,7 @@ use Rattle.paper.proofs.Asked.{version-asked, Only, a-version, an-old, 
 use Rattle.paper.proofs.Layouts.{parse-bytes}
 use Rattle.paper.proofs.Proofs.{lookup-lawful, history-lawful}
 use Rattle.paper.proofs.Accepted.{lookup-accept, history-accept}
-use Rattle.paper.proofs.Fits.{Wide, digest-wide, ItemFits, ProofFits}
+use Rattle.paper.proofs.Fits.{Wide, digest-wide, ProofFits}
 use Rattle.paper.proofs.Fit.{head-fit, item-fit, proof-fit}
 use Rattle.paper.proofs.Honest.{LeafSet, held-not, distinct-set, way-gives-root, way-present, way-absent, way-fits}
 use Rattle.paper.proofs.Records.{Runs, versions-run, runs-at, runs-rise, run-count}

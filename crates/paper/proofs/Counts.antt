@@ -1,9 +1,8 @@
 -- "a lookup has at most 776": the count is the length of the list of strings hashed, and is bounded. Assumes nothing.
-use mathlib.Core.Path.{_≡_, refl, sym, ap, _∙_}
-use mathlib.Core.Logic.{_⊎_, inl, inr, ⊎-elim}
-use mathlib.Core.Bool.{Bool, true, false, cond, _&&_}
+use mathlib.Core.Path.{_≡_, refl, ap}
+use mathlib.Core.Logic.{⊎-elim}
 use mathlib.Core.List.{List, [], _∷_, _++_, map}
-use Prim.Native.Nat.{ℕ, zero, suc, _+_, _*_, _≤_, _<_}
+use Prim.Native.Nat.{ℕ, zero, suc, _+_, _*_, _≤_}
 use native.Mathlib.Omega.{arith}
 use native.Mathlib.Nat.{suc-mul, mul-le-mul-right}
 use lib.ListN.{length, getD, length-append, length-map}
@@ -14,17 +13,16 @@ use Rattle.paper.specs.Strings.{Kind, nodeString, commitmentString}
 use Rattle.paper.specs.Labelling.{Labelling, plain}
 use Rattle.paper.specs.Path.{Step, End, Path, pathNodes}
 use Rattle.paper.specs.Layout.{Read, got, bad, parse}
-use Rattle.paper.specs.Verdict.{Test, verdict}
 use Rattle.paper.specs.Fields.{pathField}
 use Rattle.paper.specs.Shows.{Asked, Proof, kindOf, numberOf, labelAt, pathStrings, proofStrings, proofTests, inputTests}
 use Rattle.paper.specs.Lookup.{lookupAsked, lookupKeys, lookupField, lookupStrings, lookupRead, lookupGives, lookupTerms, checkLookup}
 use Rattle.paper.specs.declared.LookupAnswer.{LookupAnswer}
-use Rattle.paper.specs.declared.LookupAnswer.the-variants.{Found, NotRegistered, Refused}
+use Rattle.paper.specs.declared.LookupAnswer.the-variants.{Refused}
 use Rattle.paper.specs.Answer.{lookupValues}
 use Rattle.paper.proofs.Verdicts.{verdict-cases}
 use Rattle.paper.proofs.Layouts.{bytes-parse}
 use Rattle.paper.proofs.Proofs.{lookup-lawful}
-use Rattle.paper.proofs.Fits.{path-fits, proof-fits, ProofFits}
+use Rattle.paper.proofs.Fits.{path-fits, proof-fits}
 
 -- "m+2 for each path (its label, m nodes, its end)": m nodes and the end
 pub nodes-length : (L : Bits) (ss : List Step) (e : End) → length (pathNodes L ss e) ≡ suc (length ss)

@@ -1,21 +1,20 @@
 -- The largest subtrees with no new leaf: with the new leaves they build the new tree, and without them the old one. Assumes nothing.
 use mathlib.Core.Path.{_≡_, refl, sym, ap, ap₂, _∙_, subst}
-use mathlib.Core.Logic.{_⊎_, inl, inr, ⊎-elim}
-use mathlib.Core.Bool.{Bool, true, false, cond, not, _&&_, _||_}
+use mathlib.Core.Bool.{Bool, true, false, cond, not, _||_}
 use mathlib.Core.List.{List, [], _∷_, _++_, append-nil}
 use Prim.Native.Nat.{ℕ, zero, suc, _+_, _<_, _≤_}
 use native.Mathlib.Omega.{arith}
 use lib.Dec.{eqb}
 use lib.ListN.{length, length-append}
-use Rattle.paper.specs.Lists.{_∈_, All, keep}
+use Rattle.paper.specs.Lists.{All, keep}
 use Rattle.paper.specs.Bits.{Bits, Pfx, _▹_}
 use Rattle.paper.specs.Strings.{Node, leaf, inner, nothing}
 use Rattle.paper.specs.Tree.{key, digest, Tree, empty, one, fork, top, build}
 use Rattle.paper.specs.Audit.{AuditRecord, unchanged, opened, fresh, recordKey, olds, news, inOrder, before?}
 use Rattle.paper.specs.Write.{hasNew, subtrees}
 use Rattle.paper.proofs.Lists.{all-in, in-all, all-left, all-right, all-append, and-left, and-right, and-both, or-left, or-right, keep-append, keep-every}
-use Rattle.paper.proofs.Bits.{pfx-refl, pfx-trans, pfx-snoc, pfx-length, length-snoc}
-use Rattle.paper.proofs.Order.{Before, test-before}
+use Rattle.paper.proofs.Bits.{pfx-trans, pfx-snoc, pfx-length, length-snoc}
+use Rattle.paper.proofs.Order.{before-test}
 use Rattle.paper.proofs.Way.{Grown, single, forked, entries, IsLeaf, grown-length}
 use Rattle.paper.proofs.Rebuild.{Beyond, build-parts, grown-below, grown-some, rebuild}
 
@@ -203,7 +202,7 @@ unfolding inOrder
 order-parts p [] B a b x y = y
 order-parts p (u ∷ []) [] a b x y = refl
 order-parts p (u ∷ []) (v ∷ B) a b x y =
-    let k : before? (recordKey u) (recordKey v) ≡ true = test-before _ _ (record { at = p; low = a .0; high = b .0 }) in
+    let k : before? (recordKey u) (recordKey v) ≡ true = before-test _ _ (record { at = p; low = a .0; high = b .0 }) in
     and-both k y
 order-parts p (u ∷ w ∷ A) B a b x y =
     let k : before? (recordKey u) (recordKey w) ≡ true = and-left _ _ x in

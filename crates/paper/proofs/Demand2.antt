@@ -2,18 +2,17 @@
 -- left is accepted by the checkers' definitions at its epoch's head, with the directory's own answer. The heads are those in the head table.
 -- Stated once over the labelling. Assumes nothing.
 use mathlib.Core.Path.{_≡_, refl, sym, ap, _∙_, subst}
-use mathlib.Core.Bool.{Bool, true, false, _&&_}
-use mathlib.Core.List.{List, [], _∷_, _++_}
-use Prim.Native.Nat.{ℕ, zero, suc, _+_, _-_, _*_, _/_, _%_, _^_, _<_, _≤_}
+use mathlib.Core.Bool.{Bool, true, _&&_}
+use mathlib.Core.List.{List, []}
+use Prim.Native.Nat.{ℕ, zero, suc, _+_, _*_, _/_, _%_, _≤_}
 use native.Mathlib.Omega.{arith}
 use lib.Dec.{eqb, leb}
 use lib.ListN.{length, take, drop, length-drop}
 use lib.Seq.{length-take-le, take-at}
 use borrow.Author.Tests.{leb-true, le-leb}
-use Rattle.fips.proofs.Size.{sha256-length}
 use Rattle.paper.specs.Lists.{All}
 use Rattle.paper.specs.Numbers.{wide, recordSize, recordsMost, headsMost}
-use Rattle.paper.specs.Bytes.{Bytes, Bytewise, pasted}
+use Rattle.paper.specs.Bytes.{Bytes, pasted}
 use Rattle.paper.specs.Labelling.{Labelling, Sized}
 use Rattle.paper.specs.Fields.{isName}
 use Rattle.paper.specs.Lookup.{lookupAsked, lookupField, lookupStrings, lookupGives, checkLookup}

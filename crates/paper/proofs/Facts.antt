@@ -1,38 +1,36 @@
 -- From accepted bytes to facts: what an accepted lookup, history and run of audits show, where the strings that they hashed do not collide.
 -- Assumes nothing.
-use mathlib.Core.Path.{_≡_, refl, sym, ap, ap₂, _∙_, subst}
-use mathlib.Core.Logic.{_⊎_, inl, inr, ⊎-elim}
-use mathlib.Core.Bool.{Bool, true, false, cond, _&&_}
-use mathlib.Core.List.{List, [], _∷_, _++_, map}
-use Prim.Native.Nat.{ℕ, zero, suc, _+_, _-_, _^_, _<_, _≤_, min}
+use mathlib.Core.Path.{_≡_, refl, sym, ap₂, subst}
+use mathlib.Core.Bool.{true, _&&_}
+use mathlib.Core.List.{List, [], _∷_, map}
+use Prim.Native.Nat.{ℕ, zero, suc, _-_, _<_, _≤_}
 use native.Mathlib.Omega.{arith}
-use lib.Dec.{leb, ltb, eqb}
+use lib.Dec.{leb, ltb}
 use lib.ListN.{length, getD}
 use borrow.Author.Tests.{leb-true, ltb-true, eqb-true}
 use Rattle.fips.specs.Sha256.{sha256}
-use Rattle.paper.specs.Lists.{_∈_, All, every, upFrom}
+use Rattle.paper.specs.Lists.{_∈_, All, every}
 use Rattle.paper.specs.Numbers.{wide}
-use Rattle.paper.specs.Bytes.{Bytes, Bytewise, zeros, same}
-use Rattle.paper.specs.Bits.{Bits, log2}
-use Rattle.paper.specs.Strings.{Head, headString, commitmentString, nodeString}
+use Rattle.paper.specs.Bytes.{Bytes, Bytewise, zeros}
+use Rattle.paper.specs.Bits.{Bits}
+use Rattle.paper.specs.Strings.{Head, commitmentString, nodeString}
 use Rattle.paper.specs.Labelling.{Labelling, Sized}
 use Rattle.paper.specs.Tree.{nodes, root, rootDigest}
 use Rattle.paper.specs.Path.{Path, none, epochOf}
-use Rattle.paper.specs.Layout.{got, parse, led, times, view, seq}
+use Rattle.paper.specs.Layout.{led, times, view, seq}
 use Rattle.paper.specs.Fields.{pathField}
-use Rattle.paper.specs.Shows.{Place, inAll, inOld, asMarker, Asked, present, missing, Item, Proof, labelAt, epochAt, commitmentAt, proofStrings, proofTests, pathTests, pathStrings, Terms}
+use Rattle.paper.specs.Shows.{Place, inAll, inOld, asMarker, Asked, present, missing, Item, Proof, labelAt, epochAt, commitmentAt, proofStrings, proofTests, pathStrings, Terms}
 use Rattle.paper.specs.Lookup.{lookupAsked, lookupKeys, lookupField, lookupTerms, lookupStrings, lookupGives, checkLookup, acceptedKey}
-use Rattle.paper.specs.History.{historyAsked, historyField, historyTerms, historyStrings, checkHistory}
-use Rattle.paper.specs.Audit.{AuditRecord, unchanged, opened, fresh, Audit, auditField, auditRecordField, recordOf, listField, olds, news, inOrder, Which, ofAll, ofOld, recordRule, commitmentIn, auditTests, auditStrings, listStrings}
-use Rattle.paper.specs.Arrow.{Told, toldAt}
-use Rattle.paper.proofs.Lists.{and-left, and-right, all-left, all-right, all-in, all-map, all-getD, every-all}
+use Rattle.paper.specs.History.{historyAsked, historyTerms, historyStrings}
+use Rattle.paper.specs.Audit.{AuditRecord, unchanged, opened, fresh, Audit, auditField, auditRecordField, recordOf, olds, news, inOrder, Which, ofAll, ofOld, recordRule, auditTests, auditStrings, listStrings}
+use Rattle.paper.specs.Arrow.{toldAt}
+use Rattle.paper.proofs.Lists.{and-left, and-right, all-left, all-right, all-map, all-getD, every-all}
 use Rattle.paper.proofs.Bytes.{same-eq}
 use Rattle.paper.proofs.Strings.{HeadSized}
 use Rattle.paper.proofs.Verdicts.{Hold}
 use Rattle.paper.proofs.Layouts.{bytes-parse}
 use Rattle.paper.proofs.Proofs.{lookup-lawful, history-lawful, audit-lawful}
 use Rattle.paper.proofs.Fits.{ProofFits, proof-fits, head-fits, item-fits, label-fits, prefix-fits}
-use Rattle.paper.proofs.Tree.{Free}
 use Rattle.paper.proofs.Order.{rising-free}
 use Rattle.paper.proofs.Step.{RecordOk, Listed, order-rising, olds-all, olds-free, news-size}
 use Rattle.paper.proofs.Walk as W
@@ -40,7 +38,7 @@ use Rattle.paper.proofs.Chain.{Hashed, Opens, Stepped, rootIn}
 use Rattle.paper.proofs.Collide.{OneToOne, hashedIn}
 use Rattle.paper.proofs.Sizes.{root-sized, news-sized}
 use Rattle.paper.proofs.Shown.{Within, inside, AllShow, Shows, paths-show, show-in, show-at}
-use Rattle.paper.proofs.Agree.{Registered, LookedUp, nobody, somebody, Chronicle}
+use Rattle.paper.proofs.Agree.{LookedUp, nobody, somebody, Chronicle}
 use Rattle.paper.proofs.Asked.{version-asked, old-asked, last-asked, gap-asked, markers-asked}
 use Rattle.paper.proofs.Accepted.{LookupTold, HistoryTold, AuditTold}
 use Rattle.paper.proofs.KeyPart.{key-accepted}

@@ -1,23 +1,21 @@
 -- What fits each field: from facts on sizes and ranges to the layouts' `Fits`, the way back of Fits.antt. Assumes nothing.
-use mathlib.Core.Path.{_≡_, refl, sym, ap, _∙_, subst}
-use mathlib.Core.Bool.{Bool, true, false, not, _&&_}
-use mathlib.Core.List.{List, [], _∷_, _++_}
-use Prim.Native.Nat.{ℕ, zero, suc, _+_, _-_, _*_, _^_, _≤_, _<_}
+use mathlib.Core.Path.{_≡_, refl, sym, ap, _∙_}
+use mathlib.Core.Bool.{true, false, not}
+use mathlib.Core.List.{List, [], _++_}
+use Prim.Native.Nat.{ℕ, zero, suc, _-_, _*_, _^_, _≤_, _<_}
 use native.Mathlib.Omega.{arith}
-use lib.Dec.{eqb}
 use lib.ListN.{length, take, drop, replicate, length-append, length-replicate}
 use lib.Seq.{take-at, drop-at}
-use Rattle.paper.specs.Lists.{All, every}
-use Rattle.paper.specs.Numbers.{wide, keyMost, versionMost}
+use Rattle.paper.specs.Lists.{every}
+use Rattle.paper.specs.Numbers.{wide, keyMost}
 use Rattle.paper.specs.Bytes.{Bytes, Bytewise}
 use Rattle.paper.specs.Bits.{Bits, bitsOf, pack}
 use Rattle.paper.specs.Strings.{Head}
 use Rattle.paper.specs.Path.{Step, End, this, other, off, none, Path}
-use Rattle.paper.specs.Layout.{Layout, block, fixed, within, seq, led, times, such, view}
-use Rattle.paper.specs.Fields.{digestField, epochField, labelField, prefixBody, prefixField, keyField, headField, stepField, rise, endOf, endField, pathBody, pathField}
+use Rattle.paper.specs.Layout.{block, fixed, within, seq, led, times, such, view}
+use Rattle.paper.specs.Fields.{digestField, epochField, labelField, prefixField, keyField, headField, stepField, endOf, endField, pathField}
 use Rattle.paper.specs.Shows.{Item, itemField, Proof, proofField, Asked}
 use Rattle.paper.specs.Audit.{AuditRecord, unchanged, opened, fresh, recordOf, leafFields, auditRecordField}
-use Rattle.paper.proofs.Lists.{and-both}
 use Rattle.paper.proofs.Bytes.{pack-length, pack-bytes, pack-fill, bitsOf-pack}
 use Rattle.paper.proofs.Fits.{Wide, PathFits, ItemFits, ProofFits}
 

@@ -1,8 +1,8 @@
 -- What it means that a path, a lookup or a history proof fits its layout, field by field. Assumes nothing.
-use mathlib.Core.Path.{_≡_, refl, sym, ap, _∙_}
-use mathlib.Core.List.{List, [], _∷_, _++_}
-use mathlib.Core.Bool.{Bool, true, false}
-use Prim.Native.Nat.{ℕ, zero, suc, _+_, _^_, _≤_, _<_}
+use mathlib.Core.Path.{_≡_, ap}
+use mathlib.Core.List.{List, [], _∷_}
+use mathlib.Core.Bool.{true}
+use Prim.Native.Nat.{ℕ, suc, _^_, _≤_, _<_}
 use native.Mathlib.Omega.{arith}
 use lib.ListN.{length, getD}
 use Rattle.fips.specs.Sha256.{sha256}
@@ -10,11 +10,11 @@ use Rattle.fips.proofs.Size.{sha256-length, sha256-byte}
 use Rattle.paper.specs.Lists.{All}
 use Rattle.paper.specs.Numbers.{wide, keyMost, versionMost}
 use Rattle.paper.specs.Bytes.{Bytes, Bytewise}
-use Rattle.paper.specs.Bits.{Bits, bitsOf, pack}
+use Rattle.paper.specs.Bits.{Bits, pack}
 use Rattle.paper.specs.Strings.{Head}
-use Rattle.paper.specs.Path.{Step, End, Path}
-use Rattle.paper.specs.Layout.{Layout, block, fixed, within, seq, led, times, such, view}
-use Rattle.paper.specs.Fields.{digestField, epochField, labelField, prefixField, keyField, headField, stepField, rise, endField, pathField}
+use Rattle.paper.specs.Path.{Step, Path}
+use Rattle.paper.specs.Layout.{block, within, seq, led, times, such, view}
+use Rattle.paper.specs.Fields.{digestField, epochField, labelField, prefixField, headField, stepField, rise, endField, pathField}
 use Rattle.paper.specs.Shows.{Item, itemField, Proof, proofField, Asked}
 use Rattle.paper.proofs.Bytes.{bitsOf-length, pack-length}
 use Rattle.paper.proofs.Strings.{HeadSized}

@@ -1,27 +1,25 @@
 -- The paths of an honest tree: for every label they fit the layout, give the root, and show the leaf that is there or that none is.
 -- Assumes nothing.
 use mathlib.Core.Path.{_≡_, refl, sym, ap, _∙_, subst}
-use mathlib.Core.Logic.{_⊎_, inl, inr, ⊎-elim}
-use mathlib.Core.Bool.{Bool, true, false, cond, not, _&&_, _||_}
-use mathlib.Core.List.{List, [], _∷_, _++_}
-use Prim.Native.Nat.{ℕ, zero, suc, _+_, _*_, _^_, _<_, _≤_}
+use mathlib.Core.Bool.{Bool, true, false, cond, not}
+use mathlib.Core.List.{List, [], _∷_}
+use Prim.Native.Nat.{ℕ, suc, _^_, _<_, _≤_}
 use native.Mathlib.Omega.{arith}
-use lib.Dec.{eqb}
 use lib.ListN.{length, getD}
 use borrow.Author.Tests.{not-true}
 use Rattle.paper.specs.Lists.{_∈_, All, some}
-use Rattle.paper.specs.Bytes.{Bytes, Bytewise}
-use Rattle.paper.specs.Bits.{Bits, Pfx, starts, _▹_}
-use Rattle.paper.specs.Strings.{Node, leaf, inner, nothing, nodeString}
-use Rattle.paper.specs.Tree.{key, digest, Tree, empty, one, fork, top, side, build, root, rootDigest}
+use Rattle.paper.specs.Bytes.{Bytes}
+use Rattle.paper.specs.Bits.{Bits, starts, _▹_}
+use Rattle.paper.specs.Strings.{Node, leaf, inner, nothing}
+use Rattle.paper.specs.Tree.{key, digest, Tree, empty, top, side, build, root, rootDigest}
 use Rattle.paper.specs.Path as P
-use Rattle.paper.specs.Path.{Step, End, this, other, off, none, Path, sameBits, lastLength, endAt, waySteps, wayEnd, way, pathRoot}
+use Rattle.paper.specs.Path.{Step, End, this, other, none, sameBits, lastLength, endAt, waySteps, wayEnd, way, pathRoot}
 use Rattle.paper.specs.Fields.{riseFrom, rise, pathField, stepField}
 use Rattle.paper.specs.Table.{holds, distinct}
 use Rattle.paper.proofs.Lists.{all-in, in-all, all-left, all-right, and-left, and-right, or-left, or-right, not-both}
-use Rattle.paper.proofs.Bits.{pfx-nil, pfx-refl, pfx-full, pfx-length, length-snoc, pfx-bit}
+use Rattle.paper.proofs.Bits.{pfx-full, pfx-length, length-snoc, pfx-bit}
 use Rattle.paper.proofs.Tree.{Free, Apart, below-none, side-all, side-below, side-in, in-side, side-free}
-use Rattle.paper.proofs.Walk.{sameBits-eq, eq-sameBits}
+use Rattle.paper.proofs.Walk.{eq-sameBits}
 use Rattle.paper.proofs.Fits.{Wide, digest-wide, PathFits}
 use Rattle.paper.proofs.Fit.{step-fit, EndSized, end-fit, path-fit}
 use Rattle.paper.proofs.Way.{way-top, Grown, build-grown, Down, stands, leaves, goes, way-down, way-fork, down-rise, down-count, down-fits, lastFrom, last-from, entries, IsLeaf, down-absent, build-present, build-entries}

@@ -1,32 +1,26 @@
 -- What start and any publishings leave: records that are read back and in shape, heads that are those of document 01's rules for the
 -- records, and trees without a clash, at every epoch. Assumes nothing.
-use mathlib.Core.Path.{_≡_, refl, sym, ap, ap₂, _∙_, subst}
-use mathlib.Core.Logic.{_⊎_, inl, inr, ⊎-elim, by-cases}
-use mathlib.Core.Bool.{Bool, true, false, cond, not, _&&_}
-use mathlib.Core.List.{List, [], _∷_, _++_, map, flatMap, append-assoc, append-nil}
-use Prim.Native.Nat.{ℕ, zero, suc, _+_, _-_, _*_, _/_, _%_, _^_, _<_, _≤_}
+use mathlib.Core.Path.{_≡_, refl, sym, ap, _∙_, subst}
+use mathlib.Core.Bool.{true, _&&_}
+use mathlib.Core.List.{List, [], _∷_, _++_, flatMap, append-assoc}
+use Prim.Native.Nat.{ℕ, zero, suc, _+_, _-_, _*_, _/_, _%_, _≤_}
 use native.Mathlib.Omega.{arith}
-use native.Mathlib.Decide.{decLe}
 use lib.Dec.{eqb, leb}
-use lib.ListN.{length, take, drop, length-append, length-take, length-map, length-replicate}
-use lib.Seq.{length-take-le}
-use borrow.Author.Tests.{leb-true, eqb-true}
+use lib.ListN.{length, take, drop, length-append, length-replicate}
+use borrow.Author.Tests.{leb-true}
 use Rattle.fips.proofs.Size.{sha256-length}
-use Rattle.paper.specs.Lists.{_∈_, All, every, keep}
-use Rattle.paper.specs.Numbers.{wide, versionMost, recordSize, recordsMost, headsMost}
+use Rattle.paper.specs.Lists.{All, keep}
+use Rattle.paper.specs.Numbers.{wide, recordSize, recordsMost, headsMost}
 use Rattle.paper.specs.Bytes.{Bytes, Bytewise, be, zeros, pasted}
-use Rattle.paper.specs.Labelling.{Labelling, Sized}
-use Rattle.paper.specs.Layout.{Layout, Read, got, bad, block, fixed, within, seq, led, times, timesBytes, such, timesRead, view, whole, parse}
-use Rattle.paper.specs.Fields.{epochField}
-use Rattle.paper.specs.Table.{Record, Update, filledBody, filledField, nameField, recordField, updateField, recordsWithin, headsWithin, headAt, counted, headLies, inShape, byEpoch, allAt, oldAt, previousHead, headOf, headDigest, distinct}
+use Rattle.paper.specs.Labelling.{Labelling}
+use Rattle.paper.specs.Layout.{got, block, fixed, within, seq, led, times, timesBytes, such, timesRead, view}
+use Rattle.paper.specs.Table.{Record, filledField, recordField, recordsWithin, headsWithin, headAt, counted, inShape, byEpoch, allAt, oldAt, headDigest, distinct}
 use Rattle.paper.specs.declared.State.{State}
-use Rattle.paper.proofs.Lists.{all-in, in-all, all-append, all-left, all-right, all-take, all-drop, and-left, and-right}
+use Rattle.paper.proofs.Lists.{all-append, and-left, and-right}
 use Rattle.paper.proofs.Bytes.{be-length, be-bytes}
 use Rattle.paper.proofs.Leaves.{zeros-bytes}
-use Rattle.paper.proofs.Layouts.{Lawful, times-lawful, parse-bytes, bytes-parse}
-use Rattle.paper.proofs.Proofs.{record-lawful, update-lawful}
-use Rattle.paper.proofs.Fits.{Wide, digest-wide}
-use Rattle.paper.proofs.Pasted.{pasted-length, part-before, part-at, part-through, pasted-bytes}
+use Rattle.paper.proofs.Fits.{digest-wide}
+use Rattle.paper.proofs.Pasted.{pasted-length, part-at, pasted-bytes}
 
 -- ---- the sizes of records
 

@@ -1,21 +1,19 @@
 -- Where the key of a lookup stands in its bytes. Assumes nothing.
-use mathlib.Core.Path.{_≡_, refl, sym, ap, ap₂, _∙_, subst}
+use mathlib.Core.Path.{_≡_, refl, sym, ap, ap₂, _∙_}
 use mathlib.Core.List.{List, [], _∷_, _++_, append-assoc}
-use Prim.Native.Nat.{ℕ, zero, suc, _+_, _^_, _≤_, _<_}
+use Prim.Native.Nat.{ℕ, _≤_}
 use native.Mathlib.Omega.{arith}
 use lib.ListN.{length, take, drop, length-append}
 use lib.Seq.{take-at, drop-at, drop-drop}
 use Rattle.paper.specs.Bytes.{Bytes, be, number}
 use Rattle.paper.specs.Strings.{Head}
-use Rattle.paper.specs.Layout.{Layout, block, fixed, within, seq, led, times, timesBytes, view}
+use Rattle.paper.specs.Layout.{block, fixed, within, seq, led, times, timesBytes, view}
 use Rattle.paper.specs.Fields.{headField, pathField}
 use Rattle.paper.specs.Shows.{Item, itemField, Proof}
-use Rattle.paper.specs.Lookup.{lookupField, keyStart, keyLength, acceptedKey}
-use Rattle.paper.specs.declared.LookupAnswer.{LookupAnswer}
+use Rattle.paper.specs.Lookup.{lookupField, acceptedKey}
 use Rattle.paper.specs.declared.LookupAnswer.the-variants.{Found}
 use Rattle.paper.proofs.Bytes.{be-length, number-be}
 use Rattle.paper.proofs.Strings.{HeadSized}
-use Rattle.paper.proofs.Fits.{head-fits, item-fits, proof-fits}
 
 head-length : (h : Head) → HeadSized h → length (headField .bytes h) ≡ 100
 unfolding view seq within block

@@ -1,9 +1,8 @@
 -- Reading and writing are inverse, for each layout. Assumes nothing.
-use mathlib.Core.Path.{_≡_, refl, sym, ap, ap₂, _∙_, subst}
-use mathlib.Core.Logic.{_⊎_, inl, inr, ⊎-elim}
+use mathlib.Core.Path.{_≡_, refl, sym, ap, _∙_, subst}
 use mathlib.Core.Bool.{Bool, true, false, cond, _&&_}
 use mathlib.Core.List.{List, [], _∷_, _++_, append-assoc, append-nil}
-use Prim.Native.Nat.{ℕ, zero, suc, _+_, _^_, _≤_, _<_}
+use Prim.Native.Nat.{ℕ, zero, suc, _^_, _≤_, _<_}
 use native.Mathlib.Omega.{arith}
 use lib.Dec.{leb}
 use lib.ListN.{length, take, drop, length-append, take-append-drop}
@@ -12,7 +11,7 @@ use borrow.Author.Tests.{le-leb, leb-true}
 use Rattle.paper.specs.Lists.{All}
 use Rattle.paper.specs.Bytes.{Bytes, Bytewise, be, number, same}
 use Rattle.paper.specs.Layout.{Read, got, bad, Layout, andThen, block, fixed, within, seq, led, times, timesRead, timesBytes, such, view, never, whole, parse}
-use Rattle.paper.proofs.Lists.{and-left, and-right, and-both, not-both, all-left, all-right, all-take}
+use Rattle.paper.proofs.Lists.{and-left, and-right, all-right, all-take}
 use Rattle.paper.proofs.Bytes.{same-eq, same-refl, be-length, number-be, be-number, number-lt}
 
 -- the bytes of a value that fits are read as that value, and what is read fits and has just those bytes

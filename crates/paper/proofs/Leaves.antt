@@ -1,25 +1,25 @@
 -- The leaves that records put into the trees of an epoch. Assumes nothing.
-use mathlib.Core.Path.{_≡_, refl, sym, ap, ap₂, _∙_, subst}
-use mathlib.Core.Logic.{_⊎_, inl, inr, ⊎-elim}
-use mathlib.Core.Bool.{Bool, true, false, cond, _&&_}
-use mathlib.Core.List.{List, [], _∷_, _++_, flatMap}
-use Prim.Native.Nat.{ℕ, zero, suc, _+_, _-_, _*_, _^_, _<_, _≤_}
+use mathlib.Core.Path.{_≡_, sym, ap, _∙_, subst}
+use mathlib.Core.Logic.{inl, inr}
+use mathlib.Core.Bool.{Bool, true, false, cond}
+use mathlib.Core.List.{List, [], _∷_, flatMap}
+use Prim.Native.Nat.{ℕ, zero, suc, _-_, _^_, _<_, _≤_}
 use native.Mathlib.Omega.{arith}
 use lib.Dec.{eqb, leb, ltb}
-use lib.ListN.{length, getD, replicate, length-replicate}
+use lib.ListN.{length, length-replicate}
 use lib.Pow.{pow-pos}
 use borrow.Author.Tests.{leb-true, eq-eqb, lt-ltb}
 use Rattle.fips.specs.Sha256.{sha256}
-use Rattle.paper.specs.Lists.{_∈_, All, keep}
-use Rattle.paper.specs.Numbers.{wide, keyMost, versionMost}
+use Rattle.paper.specs.Lists.{_∈_, All}
+use Rattle.paper.specs.Numbers.{wide, versionMost}
 use Rattle.paper.specs.Bytes.{Bytes, Bytewise, zeros, same}
-use Rattle.paper.specs.Bits.{Bits, bitsOf, log2}
-use Rattle.paper.specs.Strings.{Node, leaf, Kind, version, marker, commitmentString}
+use Rattle.paper.specs.Bits.{bitsOf, log2}
+use Rattle.paper.specs.Strings.{leaf, Kind, version, marker, commitmentString}
 use Rattle.paper.specs.Labelling.{Labelling, Sized, sameName}
-use Rattle.paper.specs.Layout.{block, fixed, within, seq, led, such, view}
-use Rattle.paper.specs.Shows.{Item, inAll, inOld, asMarker, labelAt}
+use Rattle.paper.specs.Layout.{block, within, seq, led, such, view}
+use Rattle.paper.specs.Shows.{inAll, inOld, asMarker, labelAt}
 use Rattle.paper.specs.Table.{Record, recordField, byEpoch, ownRecords, leafOf, allLeaves, oldLeaves, allAt, oldAt}
-use Rattle.paper.proofs.Lists.{all-in, in-all, all-append, keep-in, keep-all, keep-passes, in-keep, in-left, in-right}
+use Rattle.paper.proofs.Lists.{all-in, in-all, all-append, keep-in, keep-all, keep-passes, in-left, in-right}
 use Rattle.paper.proofs.Bytes.{same-eq, bitsOf-length}
 use Rattle.paper.proofs.Marker.{log2-unique}
 use Rattle.paper.proofs.Fits.{Wide, digest-wide, digest-fits, epoch-fits, ItemFits}

@@ -9,7 +9,7 @@ use native.Mathlib.Omega.{arith}
 use native.Mathlib.Decide.{decLt}
 use lib.ListN.{length, take, drop, getD, length-append}
 use lib.Seq.{take-nil}
-use Rattle.paper.specs.Lists.{_∈_, All, every, some, keep, upFrom}
+use Rattle.paper.specs.Lists.{_∈_, All, every, keep, upFrom}
 
 -- a test that came out, for a proof by cases
 pub true-or-false : (b : Bool) → (b ≡ true) ⊎ (b ≡ false)

@@ -1,9 +1,9 @@
 -- Bit order: strings of bits that part at a bit which is 0 in the first and 1 in the second. "Records stand in bit order and none is a
 -- prefix of another", asked of neighbours, holds of all. Assumes nothing.
-use mathlib.Core.Path.{_≡_, refl, sym, ap, _∙_, subst}
-use mathlib.Core.Logic.{_⊎_, inl, inr, ⊎-elim}
-use mathlib.Core.Bool.{Bool, true, false, _&&_, true≢false, false≢true}
-use mathlib.Core.List.{List, [], _∷_, _++_}
+use mathlib.Core.Path.{_≡_, sym, _∙_, subst}
+use mathlib.Core.Logic.{⊎-elim}
+use mathlib.Core.Bool.{true, false, true≢false, false≢true}
+use mathlib.Core.List.{List, [], _∷_}
 use Rattle.paper.specs.Lists.{All}
 use Rattle.paper.specs.Bits.{Bits, Pfx, starts, _▹_, lcp}
 use Rattle.paper.specs.Strings.{Node}
@@ -25,17 +25,17 @@ before-lcp x y b = ⊎-elim (λ e. e)
     (pfx-next (lcp-most (b .at) x y (pfx-trans (pfx-snoc (b .at) false) (b .low)) (pfx-trans (pfx-snoc (b .at) true) (b .high))))
 
 -- the test says what the relation says
-pub before-test : (x y : Bits) → before? x y ≡ true → Before x y
+pub test-before : (x y : Bits) → before? x y ≡ true → Before x y
 unfolding before?
-before-test x y e = record {
+test-before x y e = record {
   at = lcp x y;
   low = starts-pfx _ x (and-left _ _ e);
   high = starts-pfx _ y (and-right (starts (lcp x y ▹ false) x) _ e);
 }
 
-pub test-before : (x y : Bits) → Before x y → before? x y ≡ true
+pub before-test : (x y : Bits) → Before x y → before? x y ≡ true
 unfolding before?
-test-before x y b =
+before-test x y b =
     let l : starts (lcp x y ▹ false) x ≡ true = pfx-starts _ x (subst (λ p. Pfx (p ▹ false) x) (before-lcp x y b) (b .low)) in
     and-both l (pfx-starts _ y (subst (λ p. Pfx (p ▹ true) y) (before-lcp x y b) (b .high)))
 

@@ -1,19 +1,18 @@
 -- A path that gives a root is a walk of its label from that root. Assumes nothing.
-use mathlib.Core.Path.{_≡_, refl, sym, ap, _∙_}
-use mathlib.Core.Bool.{Bool, true, false, cond, not, _&&_}
-use mathlib.Core.List.{List, [], _∷_, _++_}
-use Prim.Native.Nat.{ℕ, zero, suc, _<_}
+use mathlib.Core.Path.{_≡_, refl, ap, _∙_}
+use mathlib.Core.Bool.{Bool, true, false, cond}
+use mathlib.Core.List.{List, [], _∷_}
+use Prim.Native.Nat.{ℕ, suc, _<_}
 use lib.Dec.{ltb}
 use lib.ListN.{length, take, getD}
 use borrow.Author.Tests.{not-true}
 use Rattle.paper.specs.Lists.{All}
 use Rattle.paper.specs.Bytes.{Bytes}
 use Rattle.paper.specs.Bits.{Bits, Pfx, starts}
-use Rattle.paper.specs.Strings.{Node, leaf, inner, nothing}
 use Rattle.paper.specs.Tree.{digest}
 use Rattle.paper.specs.Path as P
 use Rattle.paper.specs.Path.{Step, End, this, other, off, none, endNode, stepNode, pathTop, pathNodes, sameBits}
-use Rattle.paper.proofs.Lists.{and-left, and-right, not-both}
+use Rattle.paper.proofs.Lists.{and-right, not-both}
 use Rattle.paper.proofs.Bits.{pfx-bit, no-pfx}
 use Rattle.paper.proofs.Walk.{eq-sameBits, Found, absent, present, go, stop, look, look-leaf, look-other, look-down, look-off, World, Walk, ends, steps}
 

@@ -1,25 +1,23 @@
 -- Reading and writing are inverse for every field, proof and record of document 01. Assumes nothing.
-use mathlib.Core.Path.{_≡_, refl, sym, ap, ap₂, _∙_, subst}
-use mathlib.Core.Bool.{Bool, true, false, not, _&&_}
+use mathlib.Core.Path.{_≡_, refl, sym, ap, ap₂, _∙_}
+use mathlib.Core.Bool.{Bool, true, false, not}
 use mathlib.Core.List.{List, [], _∷_, _++_}
-use Prim.Native.Nat.{ℕ, zero, suc, _+_, _-_, _*_, _≤_, _<_, min}
+use Prim.Native.Nat.{ℕ, zero, suc, _-_}
 use native.Mathlib.Omega.{arith}
-use lib.Dec.{eqb}
-use lib.ListN.{length, take, drop, replicate, length-take, length-drop, take-append-drop}
+use lib.ListN.{length, take, drop, replicate, take-append-drop}
 use lib.Seq.{length-take-le}
-use Rattle.paper.specs.Lists.{All, every}
+use Rattle.paper.specs.Lists.{every}
 use Rattle.paper.specs.Numbers.{wide, keyMost, versionMost, auditMost}
-use Rattle.paper.specs.Bytes.{Bytes, Bytewise, be, zeros}
+use Rattle.paper.specs.Bytes.{Bytes, be, zeros}
 use Rattle.paper.specs.Bits.{Bits, bitsOf, pack}
-use Rattle.paper.specs.Strings.{Head}
-use Rattle.paper.specs.Path.{Step, End, this, other, off, none, Path}
-use Rattle.paper.specs.Layout.{Layout, block, fixed, within, seq, led, times, such, view, never}
-use Rattle.paper.specs.Fields.{isName, digestField, epochField, labelField, prefixBody, prefixField, keyField, headField, opens, stepField, rise, endKind, endOf, endField, pathBody, pathField, thisFields, otherFields, offFields}
-use Rattle.paper.specs.Shows.{Item, itemField, Proof, proofField, Asked}
+use Rattle.paper.specs.Path.{End, this}
+use Rattle.paper.specs.Layout.{block, within, seq, times, such, view, never}
+use Rattle.paper.specs.Fields.{isName, digestField, epochField, labelField, prefixBody, prefixField, keyField, headField, stepField, rise, endKind, endOf, endField, pathBody, pathField, thisFields, otherFields, offFields}
+use Rattle.paper.specs.Shows.{itemField, proofField, Asked}
 use Rattle.paper.specs.Lookup.{lookupField, lookupKeys, lookupAsked}
 use Rattle.paper.specs.History.{historyField, historyAsked}
-use Rattle.paper.specs.Audit.{AuditRecord, unchanged, opened, fresh, recordKind, recordOf, leafFields, unchangedFields, openedFields, freshFields, auditRecordField, listField, Audit, auditField}
-use Rattle.paper.specs.Table.{Record, Update, filledBody, filledField, nameField, recordField, updateField}
+use Rattle.paper.specs.Audit.{AuditRecord, recordKind, recordOf, leafFields, unchangedFields, openedFields, freshFields, auditRecordField, listField, auditField}
+use Rattle.paper.specs.Table.{filledBody, filledField, nameField, recordField, updateField}
 use Rattle.paper.proofs.Lists.{and-left, and-right}
 use Rattle.paper.proofs.Bytes.{bitsOf-length, pack-length, pack-bitsOf, pack-fill}
 use Rattle.paper.proofs.Layouts.{Lawful, block-lawful, fixed-lawful, within-lawful, seq-lawful, led-lawful, times-lawful, such-lawful, view-lawful, never-lawful}

@@ -1,27 +1,26 @@
 -- What a successful publishing leaves is kept, and so is all that start and publishings left. Assumes nothing.
-use mathlib.Core.Path.{_≡_, refl, sym, ap, ap₂, _∙_, subst}
-use mathlib.Core.Logic.{_⊎_, inl, inr, ⊎-elim, by-cases}
-use mathlib.Core.Bool.{Bool, true, false, cond, not, _&&_}
+use mathlib.Core.Path.{_≡_, refl, sym, ap, _∙_, subst}
+use mathlib.Core.Logic.{⊎-elim, by-cases}
+use mathlib.Core.Bool.{true, _&&_}
 use mathlib.Core.List.{List, [], _∷_, _++_, map, flatMap}
-use Prim.Native.Nat.{ℕ, zero, suc, _+_, _-_, _*_, _/_, _%_, _^_, _<_, _≤_}
+use Prim.Native.Nat.{ℕ, zero, suc, _+_, _*_, _/_, _%_, _^_, _<_, _≤_}
 use native.Mathlib.Omega.{arith}
 use native.Mathlib.Decide.{decLe}
 use lib.Dec.{eqb, leb}
 use lib.ListN.{length, take, drop, length-append, length-map}
-use lib.Seq.{length-take-le}
-use borrow.Author.Tests.{leb-true, eqb-true}
+use borrow.Author.Tests.{leb-true}
 use Rattle.fips.specs.Sha256.{sha256}
 use Rattle.fips.proofs.Size.{sha256-length}
-use Rattle.paper.specs.Lists.{_∈_, All, every}
-use Rattle.paper.specs.Numbers.{wide, versionMost, recordSize, recordsMost, headsMost}
+use Rattle.paper.specs.Lists.{All, every}
+use Rattle.paper.specs.Numbers.{wide, versionMost, recordSize, headsMost}
 use Rattle.paper.specs.Bytes.{Bytes, Bytewise, pasted}
 use Rattle.paper.specs.Strings.{Node, headString}
 use Rattle.paper.specs.Tree.{rootDigest}
-use Rattle.paper.specs.Labelling.{Labelling, Sized}
+use Rattle.paper.specs.Labelling.{Labelling}
 use Rattle.paper.specs.Layout.{Read, got, bad, seq, times, timesBytes, view, within, parse}
-use Rattle.paper.specs.Verdict.{Test, test, verdict}
-use Rattle.paper.specs.Table.{Record, Update, recordField, updateField, recordsWithin, headsWithin, headAt, counted, headLies, inShape, byEpoch, allLeaves, oldLeaves, allAt, oldAt, previousHead, headOf, headDigest, distinct}
-use Rattle.paper.specs.Publish.{Started, start, Published, newRecord, once, unpublished, appended, publishTests, publishTable, publishBatch, batchWithin, publish}
+use Rattle.paper.specs.Verdict.{test}
+use Rattle.paper.specs.Table.{Record, Update, recordField, updateField, recordsWithin, headsWithin, headAt, counted, allLeaves, oldLeaves, allAt, oldAt, previousHead, headOf, headDigest, distinct}
+use Rattle.paper.specs.Publish.{Started, start, Published, newRecord, unpublished, appended, publishTests, publishTable, publishBatch, publish}
 use Rattle.paper.specs.Left.{Left, started, published}
 use Rattle.paper.specs.declared.State.{State}
 use Rattle.paper.specs.declared.StartAnswer.the-variants as S
@@ -29,9 +28,9 @@ use Rattle.paper.specs.declared.PublishAnswer.the-variants as P
 use Rattle.paper.proofs.Lists.{all-in, in-all, all-append, every-all, all-take, and-left, and-right}
 use Rattle.paper.proofs.Verdicts.{Hold, FirstFails, verdict-cases}
 use Rattle.paper.proofs.Accepted.{whole-behind}
-use Rattle.paper.proofs.Layouts.{Lawful, times-lawful, parse-bytes, bytes-parse}
+use Rattle.paper.proofs.Layouts.{times-lawful, parse-bytes, bytes-parse}
 use Rattle.paper.proofs.Proofs.{record-lawful, update-lawful}
-use Rattle.paper.proofs.Fits.{Wide, digest-wide}
+use Rattle.paper.proofs.Fits.{digest-wide}
 use Rattle.paper.proofs.Fit.{epoch-fit}
 use Rattle.paper.proofs.Pasted.{pasted-length, part-before, part-at, part-through, pasted-bytes}
 use Rattle.paper.proofs.Shape.{by-epoch-append, published-shape, new-epochs}

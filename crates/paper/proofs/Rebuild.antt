@@ -1,17 +1,17 @@
 -- A tree is determined by what stands alone in it, and a list in two parts, one on each side of a prefix, gives a fork. Assumes nothing.
 use mathlib.Core.Path.{_≡_, refl, sym, ap, ap₂, _∙_, subst}
-use mathlib.Core.Logic.{_⊎_, inl, inr, ⊎-elim}
-use mathlib.Core.Bool.{Bool, true, false, cond, false≢true, true≢false}
+use mathlib.Core.Logic.{inl, ⊎-elim}
+use mathlib.Core.Bool.{Bool, true, false, false≢true, true≢false}
 use mathlib.Core.List.{List, [], _∷_, _++_, append-nil}
-use Prim.Native.Nat.{ℕ, zero, suc, _+_, _<_, _≤_}
+use Prim.Native.Nat.{ℕ, zero, suc, _+_, _<_}
 use native.Mathlib.Omega.{arith}
 use lib.ListN.{length}
-use Rattle.paper.specs.Lists.{_∈_, All, keep}
-use Rattle.paper.specs.Bits.{Bits, Pfx, starts, _▹_}
+use Rattle.paper.specs.Lists.{_∈_, All}
+use Rattle.paper.specs.Bits.{Bits, Pfx, _▹_}
 use Rattle.paper.specs.Strings.{Node}
-use Rattle.paper.specs.Tree.{key, Tree, empty, one, fork, common, side, build}
-use Rattle.paper.proofs.Lists.{all-in, in-all, all-append, keep-append, in-left, in-right, keep-every, keep-none}
-use Rattle.paper.proofs.Bits.{pfx-trans, pfx-snoc, pfx-next, pfx-full, pfx-length, length-snoc, pfx-one-way, pfx-starts}
+use Rattle.paper.specs.Tree.{key, Tree, fork, common, side, build}
+use Rattle.paper.proofs.Lists.{all-in, in-all, all-append, keep-append, in-right, keep-every, keep-none}
+use Rattle.paper.proofs.Bits.{pfx-trans, pfx-snoc, pfx-next, pfx-length, length-snoc, pfx-one-way, pfx-starts}
 use Rattle.paper.proofs.Tree.{common-pfx, common-most}
 use Rattle.paper.proofs.Walk.{no-starts}
 use Rattle.paper.proofs.Way.{Grown, single, forked, entries, grown-length}
@@ -57,20 +57,19 @@ not-empty : {A : Type 0} (l : List A) (a : A) (m : List A) → ¬ ((l ++ (a ∷ 
 not-empty [] a m e = let z : _≡_ {A = ℕ} 0 1 = cc in omega arith
 not-empty (b ∷ l) a m e = let z : _≡_ {A = ℕ} 0 1 = cc in omega arith
 
--- two parts, neither of them empty, give a fork
+-- neither of two parts is empty: they share the prefix behind which they part
+pub parts-common : (p : Bits) (x : Node) (A : List Node) (y : Node) (B : List Node) → Beyond p false (x ∷ A) → Beyond p true (y ∷ B) → common x (A ++ (y ∷ B)) ≡ p
+parts-common p x A y B a b = common-parts p x (A ++ (y ∷ B)) shared x y (inl refl) (in-right y (x ∷ A) (y ∷ B) (inl refl)) (a .0) (b .0)
+  where
+    shared : All (λ z. Pfx p (key z)) (x ∷ (A ++ (y ∷ B)))
+    shared = all-append _ (x ∷ A) (y ∷ B) (in-all _ (x ∷ A) (λ z m. pfx-trans (pfx-snoc p false) (all-in _ (x ∷ A) a z m))) (in-all _ (y ∷ B) (λ z m. pfx-trans (pfx-snoc p true) (all-in _ (y ∷ B) b z m)))
+
+-- and give a fork
 pub build-parts : (n : ℕ) (p : Bits) (x : Node) (A : List Node) (y : Node) (B : List Node) → Beyond p false (x ∷ A) → Beyond p true (y ∷ B)
     → build (suc n) ((x ∷ A) ++ (y ∷ B)) ≡ fork p (build n (x ∷ A)) (build n (y ∷ B))
 build-parts n p x A y B a b =
-    build-fork n x S p (not-empty A y B) same ∙ ap₂ (λ l r. fork p (build n l) (build n r)) (side-low p (x ∷ A) (y ∷ B) a b) (side-high p (x ∷ A) (y ∷ B) a b)
-  where
-    S : List Node
-    S = A ++ (y ∷ B)
-
-    shared : All (λ z. Pfx p (key z)) (x ∷ S)
-    shared = all-append _ (x ∷ A) (y ∷ B) (in-all _ (x ∷ A) (λ z m. pfx-trans (pfx-snoc p false) (all-in _ (x ∷ A) a z m))) (in-all _ (y ∷ B) (λ z m. pfx-trans (pfx-snoc p true) (all-in _ (y ∷ B) b z m)))
-
-    same : common x S ≡ p
-    same = common-parts p x S shared x y (inl refl) (in-right y (x ∷ A) (y ∷ B) (inl refl)) (a .0) (b .0)
+    build-fork n x (A ++ (y ∷ B)) p (not-empty A y B) (parts-common p x A y B a b)
+    ∙ ap₂ (λ l r. fork p (build n l) (build n r)) (side-low p (x ∷ A) (y ∷ B) a b) (side-high p (x ∷ A) (y ∷ B) a b)
 
 -- ---- a tree from what stands alone in it
 

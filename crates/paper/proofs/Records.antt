@@ -1,19 +1,19 @@
 -- Records in shape: each name's own records run 1, 2, 3 with rising epochs, at every epoch; and their leaves stand in the trees.
 -- Assumes nothing.
-use mathlib.Core.Path.{_≡_, refl, sym, ap, ap₂, _∙_, subst}
-use mathlib.Core.Logic.{_⊎_, inl, inr, ⊎-elim}
-use mathlib.Core.Bool.{Bool, true, false, cond, _&&_}
-use mathlib.Core.List.{List, [], _∷_, _++_, flatMap, append-assoc, append-nil}
-use Prim.Native.Nat.{ℕ, zero, suc, _+_, _-_, _^_, _<_, _≤_}
+use mathlib.Core.Path.{_≡_, refl, sym, ap, _∙_, subst}
+use mathlib.Core.Logic.{inl, inr}
+use mathlib.Core.Bool.{Bool, true, false, cond}
+use mathlib.Core.List.{List, [], _∷_, _++_, append-nil}
+use Prim.Native.Nat.{ℕ, zero, suc, _+_, _<_, _≤_}
 use native.Mathlib.Omega.{arith}
 use lib.Dec.{eqb, leb, ltb}
 use lib.ListN.{length, getD, length-append}
-use borrow.Author.Tests.{leb-true, leb-false, ltb-true, eqb-true, le-leb, lt-leb}
+use borrow.Author.Tests.{leb-true, leb-false, ltb-true, eqb-true, lt-leb}
 use Rattle.paper.specs.Lists.{_∈_, All, every, keep}
 use Rattle.paper.specs.Bytes.{Bytes, same}
 use Rattle.paper.specs.Labelling.{Labelling, sameName}
 use Rattle.paper.specs.Table.{Record, ownRecords, follows, inShape, byEpoch, lastVersion}
-use Rattle.paper.proofs.Lists.{and-left, and-right, all-in, in-all, every-all, keep-append, keep-one, keep-in, in-keep, keep-passes, keep-keep}
+use Rattle.paper.proofs.Lists.{and-left, and-right, all-in, every-all, keep-append, keep-one, keep-keep}
 use Rattle.paper.proofs.Bytes.{same-eq}
 
 -- versions run on from k, with epochs that rise from e on

@@ -1,21 +1,20 @@
 -- Records that publishing appends are in shape, and leave the trees of earlier epochs as they were. Assumes nothing.
-use mathlib.Core.Path.{_≡_, refl, sym, ap, ap₂, _∙_, subst}
-use mathlib.Core.Logic.{_⊎_, inl, inr, ⊎-elim}
-use mathlib.Core.Bool.{Bool, true, false, cond, not, _&&_, _||_}
+use mathlib.Core.Path.{_≡_, refl, sym, ap, _∙_, subst}
+use mathlib.Core.Bool.{true, false, not}
 use mathlib.Core.List.{List, [], _∷_, _++_, map, map-append, append-assoc, append-nil}
-use Prim.Native.Nat.{ℕ, zero, suc, _+_, _<_, _≤_}
+use Prim.Native.Nat.{ℕ, suc, _<_, _≤_}
 use native.Mathlib.Omega.{arith}
 use lib.Dec.{eqb, leb, ltb}
 use lib.ListN.{length}
 use borrow.Author.Tests.{leb-true, le-leb, lt-leb, lt-ltb, eq-eqb, not-true}
 use Rattle.paper.specs.Lists.{_∈_, All, every, some, keep}
-use Rattle.paper.specs.Bytes.{Bytes, same}
+use Rattle.paper.specs.Bytes.{Bytes}
 use Rattle.paper.specs.Labelling.{Labelling, sameName}
 use Rattle.paper.specs.Table.{Record, Update, ownRecords, lastVersion, follows, inShape, byEpoch}
 use Rattle.paper.specs.Publish.{newRecord, once}
-use Rattle.paper.proofs.Lists.{all-in, in-all, all-append, all-every, every-all, and-left, and-right, and-both, or-left, or-right, keep-append, keep-none, keep-in, keep-all}
+use Rattle.paper.proofs.Lists.{all-in, in-all, all-append, all-every, and-left, and-right, and-both, or-left, or-right, keep-append, keep-none, keep-in}
 use Rattle.paper.proofs.Bytes.{same-comm}
-use Rattle.paper.proofs.Records.{Follows, follows-facts, Runs, own-runs, run-count}
+use Rattle.paper.proofs.Records.{follows-facts, own-runs, run-count}
 
 -- records of a later epoch are none of an earlier one
 pub by-epoch-append : (t : ℕ) (rs more : List Record) → All (λ r. t < r .epoch) more → byEpoch t (rs ++ more) ≡ byEpoch t rs

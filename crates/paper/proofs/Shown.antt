@@ -1,20 +1,19 @@
 -- What the accepted paths of a lookup or history show: the walks of the labels that were asked. Assumes nothing.
 use mathlib.Core.Path.{_≡_, refl, sym, ap, _∙_, subst}
-use mathlib.Core.Logic.{_⊎_, inl, inr, ⊎-elim}
+use mathlib.Core.Logic.{inl, inr}
 use mathlib.Core.Bool.{Bool, true, false, cond, _&&_}
 use mathlib.Core.List.{List, [], _∷_, _++_, map}
-use Prim.Native.Nat.{ℕ, zero, suc, _+_, _*_, _<_, _≤_}
+use Prim.Native.Nat.{ℕ, zero, suc, _<_}
 use native.Mathlib.Omega.{arith}
 use lib.ListN.{length, getD}
 use Rattle.paper.specs.Lists.{_∈_, All}
 use Rattle.paper.specs.Bytes.{Bytes, same}
-use Rattle.paper.specs.Bits.{Bits, bitsOf}
-use Rattle.paper.specs.Strings.{Kind, Node, nodeString, Head}
+use Rattle.paper.specs.Bits.{Bits}
+use Rattle.paper.specs.Strings.{Node, nodeString, Head}
 use Rattle.paper.specs.Labelling.{Labelling, Sized}
-use Rattle.paper.specs.Tree.{digest}
 use Rattle.paper.specs.Path as P
-use Rattle.paper.specs.Path.{Step, End, this, other, off, none, Path, pathNodes, pathRoot, lastLength, presentWith, epochOf}
-use Rattle.paper.specs.Fields.{stepField, pathField}
+use Rattle.paper.specs.Path.{End, this, other, off, none, Path, pathNodes, pathRoot, lastLength, presentWith, epochOf}
+use Rattle.paper.specs.Fields.{pathField}
 use Rattle.paper.specs.Shows.{Place, inAll, inOld, asMarker, Asked, Terms, kindOf, numberOf, rootAt, labelAt, meets, pathTests, pathStrings}
 use Rattle.paper.specs.Audit.{Which, ofAll, ofOld}
 use Rattle.paper.proofs.Lists.{all-left, all-right, all-in, in-all, and-left, and-right, not-both}
@@ -22,9 +21,9 @@ use Rattle.paper.proofs.Bytes.{same-eq, bitsOf-length}
 use Rattle.paper.proofs.Strings.{NodeSized}
 use Rattle.paper.proofs.Verdicts.{Hold}
 use Rattle.paper.proofs.Fits.{step-fits, path-fits}
-use Rattle.paper.proofs.Walk.{Found, absent, present, World, Walk}
+use Rattle.paper.proofs.Walk.{Found, absent, present, Walk}
 use Rattle.paper.proofs.PathWalk.{endShows, EndShows, absent-shows, path-walk}
-use Rattle.paper.proofs.Chain.{Hashed, rootIn}
+use Rattle.paper.proofs.Chain.{rootIn}
 use Rattle.paper.proofs.Collide.{OneToOne, hashedIn}
 use Rattle.paper.proofs.Sizes.{path-sized}
 

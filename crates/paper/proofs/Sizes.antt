@@ -1,22 +1,22 @@
 -- The nodes that a path and a tree hash have their sizes. Assumes nothing.
-use mathlib.Core.Path.{_≡_, refl, sym, ap, _∙_, subst}
-use mathlib.Core.Logic.{_⊎_, inl, inr}
+use mathlib.Core.Path.{_≡_, refl}
+use mathlib.Core.Logic.{inl}
 use mathlib.Core.Bool.{Bool, true, false, cond}
-use mathlib.Core.List.{List, [], _∷_, _++_}
-use Prim.Native.Nat.{ℕ, zero, suc, _+_, _*_, _<_, _≤_, min}
+use mathlib.Core.List.{List, [], _∷_}
+use Prim.Native.Nat.{ℕ, zero, suc, _≤_}
 use native.Mathlib.Omega.{arith}
-use lib.ListN.{length, take, getD, length-take}
+use lib.ListN.{length, getD, length-take}
 use Rattle.fips.proofs.Size.{sha256-length}
-use Rattle.paper.specs.Lists.{_∈_, All}
+use Rattle.paper.specs.Lists.{All}
 use Rattle.paper.specs.Numbers.{wide}
 use Rattle.paper.specs.Bytes.{Bytes}
 use Rattle.paper.specs.Bits.{Bits, _▹_}
-use Rattle.paper.specs.Strings.{Node, leaf, inner, nothing, nodeString}
-use Rattle.paper.specs.Tree.{key, digest, Tree, fork, nodes, common, side, build, root}
+use Rattle.paper.specs.Strings.{Node}
+use Rattle.paper.specs.Tree.{key, Tree, fork, nodes, common, side, build, root}
 use Rattle.paper.specs.Path.{Step, End, this, other, off, none, Path, endNode, stepNode, pathNodes}
 use Rattle.paper.specs.Layout.{led, view, seq}
 use Rattle.paper.specs.Fields.{stepField, endOf, endField, pathField}
-use Rattle.paper.specs.Audit.{AuditRecord, unchanged, opened, fresh, news, recordOf, leafFields, auditRecordField}
+use Rattle.paper.specs.Audit.{AuditRecord, unchanged, opened, fresh, news, recordOf, auditRecordField}
 use Rattle.paper.proofs.Lists.{all-append}
 use Rattle.paper.proofs.Bits.{pfx-length, length-snoc}
 use Rattle.paper.proofs.Strings.{NodeSized}

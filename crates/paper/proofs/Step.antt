@@ -1,21 +1,21 @@
 -- One audit list that builds both roots: what was there is kept, and what is new bears the new epoch. Assumes nothing.
-use mathlib.Core.Path.{_≡_, refl, sym, ap, _∙_, subst}
+use mathlib.Core.Path.{_≡_, refl, ap, _∙_, subst}
 use mathlib.Core.Logic.{_⊎_, inl, inr, ⊎-elim}
-use mathlib.Core.Bool.{Bool, true, false, _&&_}
-use mathlib.Core.List.{List, [], _∷_, _++_}
-use Prim.Native.Nat.{ℕ, zero, suc, _+_, _<_, _≤_}
+use mathlib.Core.Bool.{true}
+use mathlib.Core.List.{List, [], _∷_}
+use Prim.Native.Nat.{ℕ, _<_, _≤_}
 use native.Mathlib.Omega.{arith}
 use lib.ListN.{length}
 use Rattle.paper.specs.Lists.{_∈_, All}
 use Rattle.paper.specs.Bytes.{Bytes}
 use Rattle.paper.specs.Bits.{Bits, Pfx, starts}
-use Rattle.paper.specs.Strings.{Node, leaf, inner, nothing}
-use Rattle.paper.specs.Tree.{key, digest, top, nodes, root, rootDigest}
+use Rattle.paper.specs.Strings.{Node, leaf, inner}
+use Rattle.paper.specs.Tree.{key, digest, nodes, root, rootDigest}
 use Rattle.paper.specs.Audit.{AuditRecord, unchanged, opened, fresh, olds, news, recordKey, inOrder, before?}
-use Rattle.paper.proofs.Lists.{all-in, in-all, some-or-all, true-or-false, and-left, and-right}
+use Rattle.paper.proofs.Lists.{all-in, some-or-all, true-or-false, and-left, and-right}
 use Rattle.paper.proofs.Bits.{pfx-full, starts-pfx, no-pfx}
-use Rattle.paper.proofs.Tree.{Free, Apart}
-use Rattle.paper.proofs.Order.{Rising, rising-free, before-test}
+use Rattle.paper.proofs.Tree.{Free}
+use Rattle.paper.proofs.Order.{Rising, rising-free, test-before}
 use Rattle.paper.proofs.Walk.{Found, absent, present, look, look-leaf, World, Walk, ends, Same, walk-unique}
 use Rattle.paper.proofs.TreeWalk.{Uncovered, root-gone, root-leads}
 
@@ -41,7 +41,7 @@ order-rising (fresh m c d ∷ []) e = tt
 order-rising (x ∷ y ∷ R) e =
     let (u, ku, eu) = news-cons x (y ∷ R) in
     let (v, kv, ev) = news-cons y R in
-    let b = before-test (recordKey x) (recordKey y) (and-left _ _ e) in
+    let b = test-before (recordKey x) (recordKey y) (and-left _ _ e) in
     let h : Rising (v ∷ news R) = rw (← ev) (order-rising (y ∷ R) (and-right (before? (recordKey x) (recordKey y)) _ e)) in
     rw (eu, ev) (rw (ku, kv) b, h)
 

@@ -1,12 +1,11 @@
 -- Equal strings have equal parts: what makes a digest's preimage determine its fields. Assumes nothing.
 use mathlib.Core.Path.{_≡_, refl, sym, ap, _∙_}
-use mathlib.Core.List.{List, [], _∷_, _++_, head-eq-of-cons-eq, tail-eq-of-cons-eq}
-use Prim.Native.Nat.{ℕ, zero, suc, _+_, _*_, _^_, _<_, _≤_}
+use mathlib.Core.List.{[], _++_, head-eq-of-cons-eq, tail-eq-of-cons-eq}
+use Prim.Native.Nat.{ℕ, _^_, _<_, _≤_}
 use native.Mathlib.Omega.{arith}
 use lib.ListN.{length, getD, length-append}
 use Rattle.paper.specs.Numbers.{wide}
 use Rattle.paper.specs.Bytes.{Bytes, be}
-use Rattle.paper.specs.Bits.{Bits, pack}
 use Rattle.paper.specs.Strings.{Node, leaf, inner, nothing, leafString, innerString, nothingString, nodeString, Head, headBytes, headString, labelString, commitmentString}
 use Rattle.paper.proofs.Lists.{append-split}
 use Rattle.paper.proofs.Bytes.{be-length, be-inj, pack-length, pack-inj}

@@ -1,18 +1,18 @@
 -- The sentences of "The tree over a set of labels" as laws of the definition: what the common prefix is, what stands on each side,
 -- nothing / a leaf / an inner node below the root, and that the tree depends on the set alone. Assumes nothing.
-use mathlib.Core.Path.{_≡_, refl, sym, ap, ap₂, _∙_, subst}
-use mathlib.Core.Logic.{_⊎_, inl, inr, ⊎-elim, _↔_}
+use mathlib.Core.Path.{_≡_, refl, ap, ap₂, _∙_}
+use mathlib.Core.Logic.{inl, inr, ⊎-elim, _↔_}
 use mathlib.Core.Bool.{Bool, true, false, cond, not}
-use mathlib.Core.List.{List, [], _∷_, _++_}
+use mathlib.Core.List.{List, [], _∷_}
 use Prim.Native.Nat.{ℕ, zero, suc, _+_, _<_, _≤_}
 use native.Mathlib.Omega.{arith}
 use lib.ListN.{length}
 use Rattle.paper.specs.Lists.{_∈_, All, keep}
-use Rattle.paper.specs.Bits.{Bits, Pfx, starts, _▹_, lcp}
+use Rattle.paper.specs.Bits.{Bits, Pfx, starts, _▹_}
 use Rattle.paper.specs.Strings.{Node}
-use Rattle.paper.specs.Tree.{key, Tree, empty, one, fork, common, side, build, root}
+use Rattle.paper.specs.Tree.{key, empty, one, fork, common, side, build, root}
 use Rattle.paper.proofs.Lists.{all-in, in-all, keep-passes, keep-all, in-keep, keep-in}
-use Rattle.paper.proofs.Bits.{pfx-refl, pfx-nil, pfx-trans, pfx-snoc, pfx-next, pfx-full, pfx-length, length-snoc, starts-pfx, pfx-starts, lcp-left, lcp-right, lcp-most}
+use Rattle.paper.proofs.Bits.{pfx-refl, pfx-trans, pfx-next, pfx-full, pfx-length, length-snoc, starts-pfx, pfx-starts, lcp-left, lcp-right, lcp-most}
 
 -- ---- "their longest common prefix"
 

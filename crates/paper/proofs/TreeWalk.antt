@@ -1,20 +1,20 @@
 -- What a label's walk from the root of a tree comes to: what it comes to from the node that covers it, or absent if none does.
 -- Assumes nothing.
-use mathlib.Core.Path.{_≡_, refl, sym, ap, _∙_, subst}
-use mathlib.Core.Logic.{_⊎_, inl, inr, ⊎-elim}
-use mathlib.Core.Bool.{Bool, true, false, cond}
-use mathlib.Core.List.{List, [], _∷_, _++_}
+use mathlib.Core.Path.{_≡_, refl, ap}
+use mathlib.Core.Logic.{inl, ⊎-elim}
+use mathlib.Core.Bool.{Bool, true, false}
+use mathlib.Core.List.{List, [], _∷_}
 use Prim.Native.Nat.{ℕ, zero, suc, _+_, _<_, _≤_}
 use native.Mathlib.Omega.{arith}
 use lib.ListN.{length}
 use Rattle.paper.specs.Lists.{_∈_, All}
 use Rattle.paper.specs.Bits.{Bits, Pfx, starts, _▹_}
 use Rattle.paper.specs.Strings.{Node, leaf, inner, nothing}
-use Rattle.paper.specs.Tree.{key, digest, Tree, empty, one, fork, top, nodes, common, side, build, root}
+use Rattle.paper.specs.Tree.{key, digest, Tree, fork, top, nodes, common, side, build, root}
 use Rattle.paper.proofs.Lists.{all-in, all-left, all-right, true-or-false}
 use Rattle.paper.proofs.Bits.{pfx-nil, pfx-refl, pfx-trans, pfx-next, pfx-length, length-snoc, starts-pfx, no-pfx}
-use Rattle.paper.proofs.Tree.{Free, Apart, common-most, common-next, side-all, side-below, in-side, side-free}
-use Rattle.paper.proofs.Walk.{Found, absent, present, stop, look, look-other, look-off, look-down, look-neither, World, Walk, ends, steps, Same, same-step, same-trans}
+use Rattle.paper.proofs.Tree.{Free, common-most, common-next, side-all, side-below, in-side, side-free}
+use Rattle.paper.proofs.Walk.{absent, stop, look, look-other, look-off, look-down, look-neither, World, Walk, ends, steps, Same, same-step, same-trans}
 
 -- a node that does not cover the label says absent
 look-none : (L : Bits) (x : Node) → ¬ Pfx (key x) L → look L x ≡ stop absent

@@ -1,10 +1,10 @@
 -- What a digest shows of a label. A label walks down from a digest, node by node, to a leaf that is its own or to where it is absent.
 -- Where no two nodes that were hashed have one digest, there is one such walk. Assumes nothing.
-use mathlib.Core.Path.{_≡_, refl, sym, ap, ap₂, _∙_, subst}
+use mathlib.Core.Path.{_≡_, refl, sym, ap, _∙_, subst}
 use mathlib.Core.Logic.{_↔_}
-use mathlib.Core.Bool.{Bool, true, false, cond, _&&_, false≢true}
-use mathlib.Core.List.{List, [], _∷_, _++_}
-use Prim.Native.Nat.{ℕ, zero, suc, _≤_}
+use mathlib.Core.Bool.{Bool, true, false, cond, false≢true}
+use mathlib.Core.List.{[]}
+use Prim.Native.Nat.{ℕ}
 use native.Mathlib.Omega.{arith}
 use lib.Dec.{eqb}
 use lib.ListN.{length}
@@ -14,7 +14,7 @@ use Rattle.paper.specs.Bits.{Bits, Pfx, starts, _▹_}
 use Rattle.paper.specs.Strings.{Node, leaf, inner, nothing}
 use Rattle.paper.specs.Tree.{digest}
 use Rattle.paper.specs.Path.{sameBits}
-use Rattle.paper.proofs.Lists.{and-left, and-right, and-both, not-both, true-or-false}
+use Rattle.paper.proofs.Lists.{and-left, and-right, and-both}
 use Rattle.paper.proofs.Bits.{pfx-refl, pfx-full, pfx-one-way, pfx-trans, pfx-snoc, starts-pfx, pfx-starts}
 
 -- ---- the tests of labels and prefixes

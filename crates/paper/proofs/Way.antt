@@ -1,25 +1,25 @@
 -- A label's own path in a tree: it gives the tree's root, its lengths rise, and its end shows the leaf that is there, or that none is.
 -- Assumes nothing.
-use mathlib.Core.Path.{_≡_, refl, sym, ap, ap₂, _∙_, subst}
-use mathlib.Core.Logic.{_⊎_, inl, inr, ⊎-elim}
-use mathlib.Core.Bool.{Bool, true, false, cond, not, _&&_, true≢false}
+use mathlib.Core.Path.{_≡_, refl, sym, ap, _∙_, subst}
+use mathlib.Core.Logic.{inl, ⊎-elim}
+use mathlib.Core.Bool.{Bool, true, false, cond, not}
 use mathlib.Core.List.{List, [], _∷_, _++_}
-use Prim.Native.Nat.{ℕ, zero, suc, _+_, _-_, _<_, _≤_}
+use Prim.Native.Nat.{ℕ, zero, suc, _+_, _<_, _≤_}
 use native.Mathlib.Omega.{arith}
-use lib.Dec.{leb, ltb, eqb}
+use lib.Dec.{leb, ltb}
 use lib.ListN.{length, take, getD}
-use lib.Seq.{take-at, take-suc}
+use lib.Seq.{take-at}
 use borrow.Author.Tests.{le-leb, lt-ltb}
 use Rattle.paper.specs.Lists.{_∈_, All}
 use Rattle.paper.specs.Bytes.{Bytes}
 use Rattle.paper.specs.Bits.{Bits, Pfx, starts, _▹_}
 use Rattle.paper.specs.Strings.{Node, leaf, inner, nothing}
-use Rattle.paper.specs.Tree.{key, digest, Tree, empty, one, fork, top, common, side, build, root}
+use Rattle.paper.specs.Tree.{key, digest, Tree, empty, one, fork, top, common, side, build}
 use Rattle.paper.specs.Path as P
-use Rattle.paper.specs.Path.{Step, End, this, other, off, none, endNode, stepNode, pathTop, sameBits, lastLength, endAt, waySteps, wayEnd}
+use Rattle.paper.specs.Path.{Step, End, this, other, off, endNode, stepNode, pathTop, sameBits, lastLength, endAt, waySteps, wayEnd}
 use Rattle.paper.specs.Fields.{riseFrom, stepField}
-use Rattle.paper.proofs.Lists.{all-in, in-all, all-left, all-right, and-both, in-append}
-use Rattle.paper.proofs.Bits.{pfx-refl, pfx-nil, pfx-trans, pfx-snoc, pfx-next, pfx-full, pfx-length, length-snoc, pfx-bit, pfx-one-way, pfx-starts, starts-pfx, no-pfx}
+use Rattle.paper.proofs.Lists.{all-in, all-left, all-right, and-both, in-append}
+use Rattle.paper.proofs.Bits.{pfx-trans, pfx-snoc, pfx-next, pfx-length, length-snoc, pfx-bit, pfx-one-way, pfx-starts, starts-pfx, no-pfx}
 use Rattle.paper.proofs.Tree.{Free, common-most, common-next, side-all, side-below, in-side, side-in, side-free, sides-full}
 use Rattle.paper.proofs.Fits.{digest-wide}
 use Rattle.paper.proofs.Fit.{step-fit}

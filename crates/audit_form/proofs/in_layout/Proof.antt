@@ -1,7 +1,7 @@
 -- `audit_form::in_layout`: the opening bytes, room for two heads, a list, and a list that ends the bytes.
 use borrow.Author.Needs.{needs}
 use native.Mathlib.Omega.{arith}
-use mathlib.Core.Path.{sym, ap, _∙_}
+use mathlib.Core.Path.{sym, _∙_}
 use lib.Seq.{length-take-le}
 use borrow.Author.Tests.{not-true, not-false}
 use Rattle.audit_form.proofs.Fields.{bytewise}

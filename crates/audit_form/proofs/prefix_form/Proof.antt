@@ -1,9 +1,9 @@
 -- `audit_form::prefix_form`: the range, and the bits past the prefix, which are zero if cutting them changes nothing.
 use borrow.Author.Needs.{needs}
 use native.Mathlib.Omega.{arith}
-use mathlib.Core.Path.{_≡_, sym, ap, ap₂, _∙_}
+use mathlib.Core.Path.{sym, ap₂, _∙_}
 use mathlib.Core.Logic.{inl, inr, ⊎-elim}
-use Prim.Native.Nat.{_+_, _≤_, _<_}
+use Prim.Native.Nat.{_+_, _≤_}
 use lib.ListN.{take, drop}
 use borrow.Author.Tests.{ltb-true, ltb-false}
 use Rattle.paper.specs.Numbers.{wide}

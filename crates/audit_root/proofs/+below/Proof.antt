@@ -3,11 +3,11 @@
 use borrow.Author.Needs.{needs}
 use native.Mathlib.Omega.{arith}
 use mathlib.Core.Path.{_≡_, sym, ap, ap₂, _∙_, subst}
-use Prim.Native.Nat.{ℕ, _+_, _-_, _*_, _≤_, _<_}
-use lib.ListN.{length, take}
+use Prim.Native.Nat.{ℕ, _+_, _-_, _*_, _<_}
+use lib.ListN.{take}
 use Rattle.paper.specs.Numbers.{wide}
 use Rattle.paper.specs.Bits.{bitsOf, pack, firstDifference}
-use Rattle.audit_form.specs.Places.{labelAt, recordsAt}
+use Rattle.audit_form.specs.Places.{recordsAt}
 use Rattle.audit_root.specs.Built.{grown, forked, nodesOf}
 use Rattle.audit_root.proofs.Single.{none-grown}
 use Rattle.audit_root.proofs.Step.{Step, range-step, range-few}

@@ -1,6 +1,5 @@
 -- `audit_root::fork`: by the sides that hold a node.
 use borrow.Author.Needs.{needs}
-use mathlib.Core.Path.{_∙_}
 use borrow.Author.Tests.{eq-eqb, ne-eqb}
 use Rattle.audit_root.specs.Built.{forked}
 use Rattle.audit_root.proofs.fork.Statement.{statement}

@@ -1,7 +1,6 @@
 -- `audit_root::record_digest`: the parts of the string are the parts of the record.
 use borrow.Author.Needs.{needs}
-use native.Mathlib.Omega.{arith}
-use mathlib.Core.Path.{_≡_, sym, ap, ap₂, _∙_}
+use mathlib.Core.Path.{_∙_}
 use Rattle.fips.specs.Sha256.{sha256}
 use Rattle.paper.specs.Strings.{leafString, innerString}
 use Rattle.audit_root.proofs.Single.{opened-digest, leaf-digest}

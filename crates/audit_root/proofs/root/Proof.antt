@@ -1,8 +1,7 @@
 -- `audit_root::root`: the list is cut at the first bit, where `RootStep` says what the two sides come to.
 use borrow.Author.Needs.{needs}
 use native.Mathlib.Omega.{arith}
-use mathlib.Core.Path.{_≡_, sym, ap, _∙_, subst}
-use Prim.Native.Nat.{_+_, _-_, _*_}
+use mathlib.Core.Path.{sym, ap, _∙_, subst}
 use Rattle.paper.specs.Numbers.{wide}
 use Rattle.paper.specs.Bits.{fromBits, pack}
 use Rattle.audit_root.specs.Built.{orNothing, joined}

@@ -1,7 +1,7 @@
 -- `audit_rules::commitment_rule`: in *all* any commitment will do.
 use borrow.Author.Needs.{needs}
 use native.Mathlib.Omega.{arith}
-use mathlib.Core.Path.{_≡_, sym, ap, _∙_}
+use mathlib.Core.Path.{_≡_, ap, _∙_}
 use Prim.Native.Nat.{_+_, _-_}
 use lib.Dec.{eqb}
 use lib.ListN.{take, drop}

@@ -1,7 +1,6 @@
 -- `audit_rules::in_order`: the pairs passed were in order, so what is left decides.
 use borrow.Author.Needs.{needs}
 use native.Mathlib.Omega.{arith}
-use native.Mathlib.Nat.{sub-zero}
 use mathlib.Core.Path.{_≡_, sym, ap, _∙_}
 use Prim.Native.Nat.{suc, _+_, _-_, _*_, _≤_}
 use lib.ListN.{length}

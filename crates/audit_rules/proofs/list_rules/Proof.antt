@@ -1,7 +1,6 @@
 -- `audit_rules::list_rules`: the order, and the rule of each.
 use borrow.Author.Needs.{needs}
-use mathlib.Core.Path.{_≡_, sym, ap, ap₂, _∙_}
-use mathlib.Core.Bool.{_&&_}
+use mathlib.Core.Path.{sym, _∙_}
 use Rattle.audit_rules.proofs.list_rules.Statement.{statement}
 use Rattle.audit_rules.proofs.list_rules.Tie as tie
 

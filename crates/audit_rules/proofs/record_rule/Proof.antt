@@ -1,8 +1,6 @@
 -- `audit_rules::record_rule`: by the kind, with the commitment first.
 use borrow.Author.Needs.{needs}
-use native.Mathlib.Omega.{arith}
-use mathlib.Core.Path.{_≡_, sym, ap, _∙_}
-use lib.Dec.{leb, eqb}
+use mathlib.Core.Path.{sym, _∙_}
 use borrow.Author.Tests.{le-leb, lt-leb, not-true, not-false}
 use Rattle.audit_rules.specs.Tree.{whichOf}
 use Rattle.audit_rules.proofs.Rules.{rule-opened, rule-unchanged, rule-fresh, rule-commitment}

@@ -1,7 +1,7 @@
 -- `audit_rules::stands_before`: the three tests are the definition's, of the bits behind what the labels share.
 use borrow.Author.Needs.{needs}
 use native.Mathlib.Omega.{arith}
-use mathlib.Core.Path.{_≡_, sym, ap, ap₂, _∙_}
+use mathlib.Core.Path.{sym, ap, ap₂, _∙_}
 use lib.ListN.{take, getD}
 use Rattle.paper.specs.Bits.{bitsOf, firstDifference}
 use mathlib.Core.Bool.{false}
