@@ -57,7 +57,7 @@ fn leaf_at(s: &[u8], at: usize, label: [u8; 32], epoch: u32) -> [u8; 32]
 }
 
 // The leaf whose label and commitment stand at `at`.
-fn other_leaf(s: &[u8], at: usize, epoch: u32) -> [u8; 32]
+fn other_leaf_at(s: &[u8], at: usize, epoch: u32) -> [u8; 32]
     requires { ⌜ at + 64 ≤ length (now s) ⌝ }
     ensures { λ r. ⌜ r ≡ sha256 (leafString (take 32 (drop at (now (s .entry)))) (take 32 (drop (at + 32) (now (s .entry)))) epoch) ⌝ }
 {
@@ -66,7 +66,7 @@ fn other_leaf(s: &[u8], at: usize, epoch: u32) -> [u8; 32]
 }
 
 // The inner node whose 98 bytes stand at `at`.
-fn other_inner(s: &[u8], at: usize) -> [u8; 32]
+fn inner_at(s: &[u8], at: usize) -> [u8; 32]
     requires { ⌜ at + 98 ≤ length (now s) ⌝ }
     ensures { λ r. ⌜ r ≡ sha256 (innerString (number (take 2 (drop at (now (s .entry))))) (take 32 (drop (at + 2) (now (s .entry)))) (take 32 (drop (at + 34) (now (s .entry)))) (take 32 (drop (at + 66) (now (s .entry))))) ⌝ }
 {
@@ -84,8 +84,8 @@ fn end_digest(s: &[u8], label: [u8; 32], end: End) -> [u8; 32]
 {
     match end {
         End::This { at, epoch } => leaf_at(s, at, label, epoch),
-        End::Other { at, epoch } => other_leaf(s, at, epoch),
-        End::Off { at } => other_inner(s, at),
+        End::Other { at, epoch } => other_leaf_at(s, at, epoch),
+        End::Off { at } => inner_at(s, at),
         End::Nothing => nothing(),
     }
 }
