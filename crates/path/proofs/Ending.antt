@@ -1,27 +1,24 @@
 -- What parsing an end gives, by its kind and its bytes. Assumes nothing.
-use mathlib.Core.Path.{_≡_, refl, sym, ap, ap₂, _∙_, subst}
-use mathlib.Core.Bool.{Bool, true, false, cond, not, _&&_}
-use mathlib.Core.List.{List, [], _∷_}
-use Prim.Native.Nat.{ℕ, zero, suc, _+_, _-_, _*_, _≤_, _<_}
+use mathlib.Core.Path.{_≡_, _∙_}
+use mathlib.Core.Bool.{Bool, true, false}
+use mathlib.Core.List.{[], _∷_}
+use Prim.Native.Nat.{ℕ, suc, _+_, _-_, _≤_, _<_}
 use native.Mathlib.Omega.{arith}
-use native.Mathlib.Numerals.{add-one}
 use native.Mathlib.Nat.{add-zero}
 use mir.Val.{Fits}
 use mir.Syntax.{w8}
-use lib.ListN.{length, take, drop, getD, length-drop}
-use lib.Seq.{drop-drop, drop-cons}
-use lib.Dec.{leb, eqb}
+use lib.ListN.{length, drop, getD, length-drop}
+use lib.Seq.{drop-drop}
 use borrow.Author.Tests.{le-leb, lt-leb, eq-eqb, ne-eqb}
 use Rattle.paper.specs.Numbers.{wide}
-use Rattle.paper.specs.Bytes.{Bytes, Bytewise, zeros, number}
-use Rattle.paper.specs.Layout.{Read, got, bad, Layout, led, within}
-use Rattle.paper.specs.Fields.{endKind, endOf, endField}
+use Rattle.paper.specs.Bytes.{Bytes, Bytewise, zeros}
+use Rattle.paper.specs.Layout.{Layout, led}
+use Rattle.paper.specs.Fields.{endOf, endField}
 use Rattle.paper.specs.Path.{End}
 use Rattle.paper.proofs.Lists.{all-drop}
 use Rattle.words.proofs.Number.{number-one}
-use Rattle.path.specs.Parsed.{placed, commitmentOf, noEnd, endedOf, endedAt}
+use Rattle.path.specs.Parsed.{placed, commitmentOf, noEnd, endedAt}
 use Rattle.path.specs.declared.End.the-variants.{Nothing}
-use Rattle.path.specs.declared.ends.Ended.{Ended}
 use Rattle.path.proofs.Flat.{Flat, flat-yes, flat-short, flat-no, within-flat}
 use Rattle.path.proofs.Fields.{none-flat}
 

@@ -1,21 +1,21 @@
 -- The fields of a path by places: its steps, and each kind of end. Assumes nothing.
-use mathlib.Core.Path.{_≡_, refl, sym, ap, ap₂, _∙_, subst}
-use mathlib.Core.Bool.{Bool, true, false, cond, not, _&&_}
+use mathlib.Core.Path.{_≡_, refl, sym, ap, _∙_}
+use mathlib.Core.Bool.{Bool, true, false, _&&_}
 use mathlib.Core.List.{List, [], _∷_}
-use Prim.Native.Nat.{ℕ, zero, suc, _+_, _-_, _*_, _≤_, _<_}
+use Prim.Native.Nat.{ℕ, zero, suc, _*_}
 use native.Mathlib.Omega.{arith}
 use lib.Dec.{leb, eqb, leb·zero, leb·suc-zero, eqb·suc-zero}
 use lib.ListN.{length, take, drop}
 use lib.Seq.{drop-drop}
 use Rattle.paper.specs.Lists.{every}
 use Rattle.paper.specs.Numbers.{wide}
-use Rattle.paper.specs.Bytes.{Bytes, Bytewise, number, same}
-use Rattle.paper.specs.Bits.{Bits, bitsOf, pack}
-use Rattle.paper.specs.Layout.{Read, got, bad, Layout, andThen, block, fixed, within, seq, led, times, timesRead, such, view}
-use Rattle.paper.specs.Fields.{digestField, epochField, labelField, prefixField, prefixBody, stepField, riseFrom, rise, endOf, thisFields, otherFields, offFields}
+use Rattle.paper.specs.Bytes.{Bytes, number, same}
+use Rattle.paper.specs.Bits.{bitsOf}
+use Rattle.paper.specs.Layout.{block, fixed, within, seq, times, timesRead, such}
+use Rattle.paper.specs.Fields.{digestField, epochField, labelField, prefixField, stepField, riseFrom, rise, endOf}
 use Rattle.paper.specs.Path.{Step, End, this, other, off, none}
 use Rattle.path.specs.Places.{stepIn, stepsIn, ranged, prefixLength, prefixBytes, prefixGood}
-use Rattle.path.proofs.Flat.{Flat, and-true, and-false, and-swap, flat-as, flat-map, flat-then, block-flat, within-flat, seq-flat, led-flat, view-flat, such-flat, epoch-flat}
+use Rattle.path.proofs.Flat.{Flat, and-true, and-false, flat-as, flat-map, flat-then, block-flat, within-flat, seq-flat, led-flat, view-flat, such-flat, epoch-flat}
 
 digest-flat : Flat (digestField .read) 32 (λ s. true) (take 32)
 digest-flat = block-flat wide

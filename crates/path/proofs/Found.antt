@@ -1,25 +1,24 @@
 -- A path that was read stands at its places, and is found there again. Assumes nothing.
-use mathlib.Core.Path.{_≡_, refl, sym, ap, ap₂, _∙_, subst}
-use mathlib.Core.Bool.{Bool, true, false, not, cond, _&&_}
-use mathlib.Core.List.{List, [], _∷_}
-use Prim.Native.Nat.{ℕ, zero, suc, _+_, _-_, _*_, _≤_, _<_}
+use mathlib.Core.Path.{_≡_, refl, sym, ap, _∙_, subst}
+use mathlib.Core.Bool.{true, false, _&&_}
+use mathlib.Core.List.{List}
+use Prim.Native.Nat.{ℕ, zero, suc, _+_, _*_, _≤_, _<_}
 use native.Mathlib.Omega.{arith}
-use lib.Dec.{leb, eqb}
+use lib.Dec.{leb}
 use lib.ListN.{length, take, drop, length-drop}
 use lib.Seq.{drop-drop}
 use borrow.Author.Tests.{leb-true}
-use Rattle.paper.specs.Lists.{every}
 use Rattle.paper.specs.Bytes.{Bytes, Bytewise, number, same}
 use Rattle.paper.specs.Bits.{bitsOf}
-use Rattle.paper.specs.Layout.{Read, got, bad, Layout, andThen, within, led, times, such, never}
+use Rattle.paper.specs.Layout.{Read, got, bad, within, led, times, such, never}
 use Rattle.paper.specs.Fields.{stepField, rise, endOf, endField, pathBody, pathField}
-use Rattle.paper.specs.Path.{pathRoot, none}
+use Rattle.paper.specs.Path.{pathRoot}
 use Rattle.paper.specs.Path as P
 use Rattle.paper.proofs.Lists.{and-left, and-right, all-take, all-drop, not-both}
 use Rattle.paper.proofs.Layouts.{then-got}
 use Rattle.words.proofs.Pasted.{length-part}
-use Rattle.path.specs.Places.{stepIn, stepsIn, ranged, rising, prefixLength, prefixBytes, prefixGood, endIn, pathIn, Stands, EndStands, PathStands}
-use Rattle.path.specs.Parsed.{placed, commitmentOf, pathOf, pathAt}
+use Rattle.path.specs.Places.{stepsIn, ranged, prefixLength, prefixBytes, prefixGood, endIn, pathIn, EndStands, PathStands}
+use Rattle.path.specs.Parsed.{placed, pathOf, pathAt}
 use Rattle.path.specs.Taken.{shownBy, takenOf, taken}
 use Rattle.path.specs.declared.Path.{Path}
 use Rattle.path.specs.declared.Taken.{Taken}

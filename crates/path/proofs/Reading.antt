@@ -1,9 +1,9 @@
 -- Reading a path, field by field from its place on. Assumes nothing.
-use mathlib.Core.Path.{_≡_, refl, sym, ap, ap₂, _∙_, subst}
-use mathlib.Core.Logic.{_⊎_, inl, inr}
-use mathlib.Core.Bool.{Bool, true, false, cond, _&&_}
-use mathlib.Core.List.{List, [], _∷_}
-use Prim.Native.Nat.{ℕ, zero, suc, _+_, _-_, _*_, _≤_, _<_}
+use mathlib.Core.Path.{_≡_, refl, sym, ap, _∙_}
+use mathlib.Core.Logic.{inl, inr}
+use mathlib.Core.Bool.{true, false, cond}
+use mathlib.Core.List.{List}
+use Prim.Native.Nat.{ℕ, _+_, _*_, _≤_, _<_}
 use native.Mathlib.Omega.{arith}
 use native.Mathlib.Decide.{decLe}
 use lib.Dec.{leb}
@@ -11,13 +11,13 @@ use lib.ListN.{length, take, drop, length-drop}
 use lib.Seq.{drop-drop}
 use borrow.Author.Tests.{leb-true}
 use Rattle.paper.specs.Bytes.{Bytes, Bytewise, number}
-use Rattle.paper.specs.Layout.{Read, got, bad, Layout, andThen, within, seq, led, times, such, view}
+use Rattle.paper.specs.Layout.{Read, got, bad, andThen, within, seq, led, times, such, view}
 use Rattle.paper.specs.Fields.{stepField, rise, endField, pathBody, pathField}
 use Rattle.paper.specs.Path.{Step, End}
 use Rattle.paper.specs.Path as P
 use Rattle.paper.proofs.Lists.{and-left, and-right, all-drop}
 use Rattle.path.specs.Places.{stepsIn, rising}
-use Rattle.path.specs.Parsed.{countOf, countAt, noPath, pathOf, pathAt, noEnd, endedOf, endedAt}
+use Rattle.path.specs.Parsed.{countOf, countAt, noPath, pathOf, pathAt, endedOf, endedAt}
 use Rattle.path.specs.declared.Path.{Path}
 use Rattle.path.specs.declared.ends.Ended.{Ended}
 use Rattle.path.proofs.Flat.{flat-yes, flat-short, flat-no, flat-got, within-flat, inside, outside}

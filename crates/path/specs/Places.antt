@@ -59,7 +59,7 @@ climbed L [] d = d
 climbed L (s ∷ ss) d = digest (stepNode L s (climbed L ss d))
 
 -- a step stands whole at a place, and its prefix is one of a label
-pub record Stands (s : Bytes) (at : ℕ) : Type 0 where
+pub record StepStands (s : Bytes) (at : ℕ) : Type 0 where
   pub room : at + 34 ≤ length s
   pub short : number (take 2 (drop at s)) ≤ 255
 
@@ -76,5 +76,5 @@ pub record PathStands (s : Bytes) (p : Path) : Type 0 where
   pub some : 1 ≤ p .count
   pub most : p .count ≤ 256
   pub room : p .steps + 34 * p .count ≤ length s
-  pub each : (i : ℕ) → i < p .count → Stands s (p .steps + 34 * i)
+  pub each : (i : ℕ) → i < p .count → StepStands s (p .steps + 34 * i)
   pub last : EndStands s (p .«end»)

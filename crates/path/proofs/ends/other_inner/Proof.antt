@@ -1,7 +1,7 @@
 -- `path::ends::other_inner`: where the 98 bytes are there and the prefix is good, their parts are the end's fields.
 use borrow.Author.Needs.{needs}
 use borrow.Author.Tests.{not-true, not-false}
-use mathlib.Core.Path.{_≡_, sym, _∙_}
+use mathlib.Core.Path.{sym, _∙_}
 use Rattle.paper.specs.Fields.{endOf}
 use Rattle.path.proofs.Fields.{off-flat}
 use Rattle.path.proofs.Ending.{bytewise, ended-yes, ended-short, ended-no}

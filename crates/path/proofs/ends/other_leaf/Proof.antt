@@ -1,6 +1,6 @@
 -- `path::ends::other_leaf`: where the 68 bytes are there, their parts are the end's fields.
 use borrow.Author.Needs.{needs}
-use mathlib.Core.Path.{_≡_, refl, sym, ap, _∙_}
+use mathlib.Core.Path.{refl, sym, ap, _∙_}
 use lib.ListN.{take}
 use lib.Seq.{drop-drop}
 use Rattle.paper.specs.Bytes.{number}

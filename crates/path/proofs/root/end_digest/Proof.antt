@@ -1,15 +1,11 @@
 -- `path::root::end_digest`: each kind's digest is that of the end at its place.
 use borrow.Author.Needs.{needs}
 use native.Mathlib.Omega.{arith}
-use mathlib.Core.Path.{_≡_, sym, ap, _∙_, subst}
+use mathlib.Core.Path.{_∙_}
 use Rattle.paper.specs.Bytes.{Bytewise}
-use Rattle.paper.specs.Bits.{bitsOf}
-use Rattle.paper.specs.Path.{endNode}
-use Rattle.paper.specs.Tree.{digest}
 use Rattle.paper.proofs.Fits.{Wide}
-use Rattle.path.specs.Places.{endIn, EndStands}
 use Rattle.path.proofs.Ending.{bytewise}
-use Rattle.path.proofs.Climb.{EndDigest, this-digest, other-digest, off-digest}
+use Rattle.path.proofs.Climb.{this-digest, other-digest, off-digest}
 use Rattle.path.proofs.root.end_digest.Statement.{statement}
 use Rattle.path.proofs.root.end_digest.Tie as tie
 
