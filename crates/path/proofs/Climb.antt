@@ -1,8 +1,8 @@
 -- The root that a path gives: the digests of its nodes from the end upwards. Assumes nothing.
-use mathlib.Core.Path.{_≡_, refl, sym, ap, ap₂, _∙_}
-use mathlib.Core.Bool.{Bool, false, cond}
+use mathlib.Core.Path.{_≡_, refl, sym, ap, _∙_}
+use mathlib.Core.Bool.{Bool, false}
 use mathlib.Core.List.{List, [], _∷_}
-use Prim.Native.Nat.{ℕ, zero, suc, _+_, _*_, _≤_, _<_}
+use Prim.Native.Nat.{ℕ, _+_, _*_, _≤_, _<_}
 use native.Mathlib.Omega.{arith}
 use lib.ListN.{length, take, drop, getD}
 use lib.Seq.{drop-drop, length-take-le}
@@ -18,7 +18,7 @@ use Rattle.paper.proofs.Lists.{all-take, all-drop}
 use Rattle.paper.proofs.Fits.{Wide}
 use Rattle.words.proofs.Pasted.{length-part}
 use Rattle.strings.specs.Join.{joined}
-use Rattle.path.specs.Places.{stepIn, stepsIn, endIn, climbed, Stands, EndStands}
+use Rattle.path.specs.Places.{stepIn, stepsIn, endIn, climbed, StepStands, EndStands}
 use Rattle.path.specs.declared.End as E
 use Rattle.path.specs.declared.End.the-variants.{This, Other, Off}
 use Rattle.path.proofs.Steps.{step-at, no-more}
@@ -28,7 +28,7 @@ use Rattle.path.proofs.Steps.{step-at, no-more}
 bits-size : (x : Bytes) → length x ≡ 32 → length (bitsOf x) ≡ 256
 bits-size x h = omega (arith, bitsOf-length x)
 
-pub step-digest : (label s : Bytes) (at : ℕ) (below : Bytes) (k : ℕ) (prefix sibling : Bytes) (bit : Bool) → length label ≡ 32 → Stands s at
+pub step-digest : (label s : Bytes) (at : ℕ) (below : Bytes) (k : ℕ) (prefix sibling : Bytes) (bit : Bool) → length label ≡ 32 → StepStands s at
     → k ≡ number (take 2 (drop at s)) → prefix ≡ pack 32 (take k (bitsOf label)) → sibling ≡ take 32 (drop (at + 2) s) → bit ≡ getD (bitsOf label) k false
     → sha256 (joined bit k prefix below sibling) ≡ digest (stepNode (bitsOf label) (stepIn (drop at s)) below)
 unfolding stepNode joined

@@ -1,29 +1,26 @@
 -- What parsing an end gives, by its kind and its bytes. Assumes nothing.
-use mathlib.Core.Path.{_≡_, refl, sym, ap, ap₂, _∙_, subst}
-use mathlib.Core.Bool.{Bool, true, false, cond, not, _&&_}
-use mathlib.Core.List.{List, [], _∷_}
-use Prim.Native.Nat.{ℕ, zero, suc, _+_, _-_, _*_, _≤_, _<_}
+use mathlib.Core.Path.{_≡_, _∙_}
+use mathlib.Core.Bool.{Bool, true, false}
+use mathlib.Core.List.{[], _∷_}
+use Prim.Native.Nat.{ℕ, suc, _+_, _-_, _≤_, _<_}
 use native.Mathlib.Omega.{arith}
-use native.Mathlib.Numerals.{add-one}
 use native.Mathlib.Nat.{add-zero}
 use mir.Val.{Fits}
 use mir.Syntax.{w8}
-use lib.ListN.{length, take, drop, getD, length-drop}
-use lib.Seq.{drop-drop, drop-cons}
-use lib.Dec.{leb, eqb}
-use borrow.Author.Tests.{le-leb, lt-leb}
+use lib.ListN.{length, drop, getD, length-drop}
+use lib.Seq.{drop-drop}
+use borrow.Author.Tests.{le-leb, lt-leb, eq-eqb, ne-eqb}
 use Rattle.paper.specs.Numbers.{wide}
-use Rattle.paper.specs.Bytes.{Bytes, Bytewise, zeros, number}
-use Rattle.paper.specs.Layout.{Read, got, bad, Layout, led, within}
-use Rattle.paper.specs.Fields.{endKind, endOf, endField}
+use Rattle.paper.specs.Bytes.{Bytes, Bytewise, zeros}
+use Rattle.paper.specs.Layout.{Layout, led}
+use Rattle.paper.specs.Fields.{endOf, endField}
 use Rattle.paper.specs.Path.{End}
 use Rattle.paper.proofs.Lists.{all-drop}
 use Rattle.words.proofs.Number.{number-one}
-use Rattle.path.specs.Parsed.{placed, commitmentOf, noEnd, endedOf, endedAt}
-use Rattle.path.specs.declared.End.the-variants.{This, Other, Off, Nothing}
-use Rattle.path.specs.declared.ends.Ended.{Ended}
+use Rattle.path.specs.Parsed.{placed, commitmentOf, noEnd, endedAt}
+use Rattle.path.specs.declared.End.the-variants.{Nothing}
 use Rattle.path.proofs.Flat.{Flat, flat-yes, flat-short, flat-no, within-flat}
-use Rattle.path.proofs.Fields.{this-flat, other-flat, prefixGood, off-flat, none-flat}
+use Rattle.path.proofs.Fields.{none-flat}
 
 -- the elements of a slice of bytes are bytes
 pub bytewise : (s : Bytes) → ((i : ℕ) → Fits w8 (getD s i 0)) → Bytewise s
@@ -65,3 +62,11 @@ module _ (m : ℕ) (s : Bytes) (at : ℕ) (w : Bytewise s) where
       let k = getD s at 0 in
       let i = number-one s at h in
       rw (flat-no (within-flat 1 0 3) (drop at s) (all-drop _ at s w) (rw (i, le-leb 0 k (omega arith), lt-leb k 3 l)))
+
+-- "3, nothing, only with m = 1."
+pub none-yes : (m : ℕ) (s : Bytes) (fields : ℕ) → Bytewise s → fields ≤ length s → m ≡ 1
+    → endedAt (endOf m 3) s fields fields ≡ record { good = true; «end» = Nothing; commitment = zeros wide; next = fields }
+none-yes m s fields w h e = rw (add-zero fields) at (ended-yes (endOf m 3) (none-flat m) s fields fields w (omega arith) (eq-eqb m 1 e))
+
+pub none-no : (m : ℕ) (s : Bytes) (fields : ℕ) → Bytewise s → (m ≡ 1 → ⊥) → endedAt (endOf m 3) s fields fields ≡ noEnd
+none-no m s fields w e = ended-no (endOf m 3) (none-flat m) s fields fields w (ne-eqb m 1 e)

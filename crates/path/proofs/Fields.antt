@@ -1,21 +1,21 @@
 -- The fields of a path by places: its steps, and each kind of end. Assumes nothing.
-use mathlib.Core.Path.{_≡_, refl, sym, ap, ap₂, _∙_, subst}
-use mathlib.Core.Bool.{Bool, true, false, cond, not, _&&_}
+use mathlib.Core.Path.{_≡_, refl, sym, ap, _∙_}
+use mathlib.Core.Bool.{Bool, true, false, _&&_}
 use mathlib.Core.List.{List, [], _∷_}
-use Prim.Native.Nat.{ℕ, zero, suc, _+_, _-_, _*_, _≤_, _<_}
+use Prim.Native.Nat.{ℕ, zero, suc, _*_}
 use native.Mathlib.Omega.{arith}
 use lib.Dec.{leb, eqb, leb·zero, leb·suc-zero, eqb·suc-zero}
 use lib.ListN.{length, take, drop}
 use lib.Seq.{drop-drop}
 use Rattle.paper.specs.Lists.{every}
 use Rattle.paper.specs.Numbers.{wide}
-use Rattle.paper.specs.Bytes.{Bytes, Bytewise, number, same}
-use Rattle.paper.specs.Bits.{Bits, bitsOf, pack}
-use Rattle.paper.specs.Layout.{Read, got, bad, Layout, andThen, block, fixed, within, seq, led, times, timesRead, such, view}
-use Rattle.paper.specs.Fields.{digestField, epochField, labelField, prefixField, prefixBody, stepField, riseFrom, rise, endOf, thisFields, otherFields, offFields}
+use Rattle.paper.specs.Bytes.{Bytes, number, same}
+use Rattle.paper.specs.Bits.{bitsOf}
+use Rattle.paper.specs.Layout.{block, fixed, within, seq, times, timesRead, such}
+use Rattle.paper.specs.Fields.{digestField, epochField, labelField, prefixField, stepField, riseFrom, rise, endOf}
 use Rattle.paper.specs.Path.{Step, End, this, other, off, none}
-use Rattle.path.specs.Places.{stepIn, stepsIn, ranged}
-use Rattle.path.proofs.Flat.{Flat, and-true, and-false, and-swap, flat-as, flat-map, flat-then, block-flat, within-flat, seq-flat, led-flat, view-flat, such-flat, epoch-flat}
+use Rattle.path.specs.Places.{stepIn, stepsIn, ranged, prefixLength, prefixBytes, prefixGood}
+use Rattle.path.proofs.Flat.{Flat, and-true, and-false, flat-as, flat-map, flat-then, block-flat, within-flat, seq-flat, led-flat, view-flat, such-flat, epoch-flat}
 
 digest-flat : Flat (digestField .read) 32 (λ s. true) (take 32)
 digest-flat = block-flat wide
@@ -68,16 +68,6 @@ thisIn s = this (take 32 s) (number (take 4 (drop 32 s)))
 abbrev pub otherIn : Bytes → End
 otherIn s = other (bitsOf (take 32 s)) (take 32 (drop 32 s)) (number (take 4 (drop 64 s)))
 
--- the length of a prefix, and its bits
-abbrev pub prefixLength : Bytes → ℕ
-prefixLength s = number (take 2 s)
-
-abbrev pub prefixBytes : Bytes → Bytes
-prefixBytes s = take 32 (drop 2 s)
-
-abbrev pub prefixGood : Bytes → Bool
-prefixGood s = (leb 1 (prefixLength s) && leb (prefixLength s) 255) && every not (drop (prefixLength s) (bitsOf (prefixBytes s)))
-
 abbrev pub offIn : Bytes → End
 offIn s = off (take (prefixLength s) (bitsOf (prefixBytes s))) (take 32 (drop 34 s)) (take 32 (drop 66 s))
 
@@ -96,7 +86,7 @@ module _ (m : ℕ) where
       (view-flat _ _ _ (seq-flat labelField (λ _. seq digestField (λ _. epochField)) (view-flat _ _ _ digest-flat) (λ _. seq-flat digestField (λ _. epochField) digest-flat (λ _. epoch-flat))))
 
   pub off-flat : Flat (endOf m 2 .read) 98 prefixGood offIn
-  unfolding endOf
+  unfolding endOf prefixGood
   off-flat = flat-as refl (λ s. and-true (prefixGood s)) (λ s. rw (drop-drop 32 34 s))
       (view-flat _ _ _ (seq-flat prefixField (λ _. seq digestField (λ _. digestField))
       (led-flat _ _ _ (within-flat 2 1 255) (λ n. view-flat _ _ _ (such-flat (block wide) _ digest-flat)))

@@ -1,20 +1,18 @@
 -- Layouts of a fixed size: what is read is a test of the bytes' number and of the bytes, and the value stands at fixed places. Assumes nothing.
-use mathlib.Core.Path.{_≡_, refl, sym, ap, ap₂, _∙_, subst}
+use mathlib.Core.Path.{_≡_, refl, sym, _∙_, subst}
 use mathlib.Core.Logic.{_⊎_, inl, inr, by-cases}
 use mathlib.Core.Bool.{Bool, true, false, cond, _&&_}
-use mathlib.Core.List.{List, [], _∷_}
-use Prim.Native.Nat.{ℕ, zero, suc, _+_, _-_, _^_, _≤_, _<_}
+use Prim.Native.Nat.{ℕ, _+_, _-_, _^_, _≤_, _<_}
 use native.Mathlib.Omega.{arith}
 use native.Mathlib.Decide.{decLe}
 use lib.Dec.{leb, leb·zero}
-use lib.ListN.{length, take, drop, length-drop, length-take}
-use lib.Seq.{drop-drop}
-use lib.Pow.{pow-mono}
+use lib.ListN.{length, take, drop, length-drop}
+use lib.Seq.{drop-drop, length-take-le}
 use borrow.Author.Tests.{le-leb, lt-leb, leb-true}
 use Rattle.paper.specs.Bytes.{Bytes, Bytewise, number}
 use Rattle.paper.specs.Layout.{Read, got, bad, Layout, andThen, block, within, seq, led, such, view}
 use Rattle.paper.specs.Fields.{epochField}
-use Rattle.paper.proofs.Lists.{and-left, and-right, and-both, all-take, all-drop}
+use Rattle.paper.proofs.Lists.{all-take, all-drop}
 use Rattle.paper.proofs.Bytes.{number-lt}
 
 -- ---- tests one behind the other
@@ -28,7 +26,7 @@ and-false true = refl
 and-false false = refl
 
 -- two pairs of tests, the first ones of both in front
-pub and-swap : (a b c d : Bool) → ((a && b) && (c && d)) ≡ ((a && c) && (b && d))
+and-swap : (a b c d : Bool) → ((a && b) && (c && d)) ≡ ((a && c) && (b && d))
 and-swap true true c d = refl
 and-swap true false true d = refl
 and-swap true false false d = refl
@@ -47,7 +45,7 @@ cond-cond true b x = refl
 cond-cond false b x = refl
 
 -- what is read on, past a test
-pub then-cond : {A B : Type 0} (b : Bool) (x : A) (r : Bytes) (f : A → Bytes → Read B) → andThen (cond b (got x r) bad) f ≡ cond b (f x r) bad
+then-cond : {A B : Type 0} (b : Bool) (x : A) (r : Bytes) (f : A → Bytes → Read B) → andThen (cond b (got x r) bad) f ≡ cond b (f x r) bad
 then-cond true x r f = refl
 then-cond false x r f = refl
 
@@ -145,15 +143,8 @@ unfolding within
 epoch-flat = record {
   reads = λ s w.
       let x = number (take 4 s) in
-      let h : x < 256 ^ length (take 4 s) = number-lt (take 4 s) (all-take _ 4 s w) in
-      let k : x ≤ 2 ^ 32 - 1 = omega (arith, most (length (take 4 s)) (omega (arith, length-take 4 s))) in
-      rw (leb·zero x, le-leb x (2 ^ 32 - 1) k);
+      by-cases (decLe 4 (length s))
+      (λ l. let h : x < 256 ^ 4 = subst (λ n. x < 256 ^ n) (length-take-le 4 s l) (number-lt (take 4 s) (all-take _ 4 s w)) in
+      rw (leb·zero x, le-leb x (2 ^ 32 - 1) (omega arith)))
+      (λ l. rw (lt-leb 4 (length s) (omega arith)));
 }
-  where
-    most : (n : ℕ) → n ≤ 4 → 256 ^ n ≤ 2 ^ 32
-    most zero h = omega arith
-    most (suc zero) h = omega arith
-    most (suc (suc zero)) h = omega arith
-    most (suc (suc (suc zero))) h = omega arith
-    most (suc (suc (suc (suc zero)))) h = omega arith
-    most (suc (suc (suc (suc (suc n))))) h = absurd (omega arith)

@@ -1,33 +1,32 @@
 -- A path that was read stands at its places, and is found there again. Assumes nothing.
-use mathlib.Core.Path.{_≡_, refl, sym, ap, ap₂, _∙_, subst}
-use mathlib.Core.Bool.{Bool, true, false, not, cond, _&&_}
-use mathlib.Core.List.{List, [], _∷_}
-use Prim.Native.Nat.{ℕ, zero, suc, _+_, _-_, _*_, _≤_, _<_}
+use mathlib.Core.Path.{_≡_, refl, sym, ap, _∙_, subst}
+use mathlib.Core.Bool.{true, false, _&&_}
+use mathlib.Core.List.{List}
+use Prim.Native.Nat.{ℕ, zero, suc, _+_, _*_, _≤_, _<_}
 use native.Mathlib.Omega.{arith}
-use lib.Dec.{leb, eqb}
+use lib.Dec.{leb}
 use lib.ListN.{length, take, drop, length-drop}
 use lib.Seq.{drop-drop}
 use borrow.Author.Tests.{leb-true}
-use Rattle.paper.specs.Lists.{every}
 use Rattle.paper.specs.Bytes.{Bytes, Bytewise, number, same}
 use Rattle.paper.specs.Bits.{bitsOf}
-use Rattle.paper.specs.Layout.{Read, got, bad, Layout, andThen, within, led, times, such, never}
+use Rattle.paper.specs.Layout.{Read, got, bad, within, led, times, such, never}
 use Rattle.paper.specs.Fields.{stepField, rise, endOf, endField, pathBody, pathField}
-use Rattle.paper.specs.Path.{pathRoot, none}
+use Rattle.paper.specs.Path.{pathRoot}
 use Rattle.paper.specs.Path as P
 use Rattle.paper.proofs.Lists.{and-left, and-right, all-take, all-drop, not-both}
 use Rattle.paper.proofs.Layouts.{then-got}
 use Rattle.words.proofs.Pasted.{length-part}
-use Rattle.path.specs.Places.{stepIn, stepsIn, ranged, endIn, pathIn, Stands, EndStands, PathStands}
-use Rattle.path.specs.Parsed.{placed, commitmentOf, pathOf, pathAt}
+use Rattle.path.specs.Places.{stepsIn, ranged, prefixLength, prefixBytes, prefixGood, endIn, pathIn, EndStands, PathStands}
+use Rattle.path.specs.Parsed.{placed, pathOf, pathAt}
 use Rattle.path.specs.Taken.{shownBy, takenOf, taken}
 use Rattle.path.specs.declared.Path.{Path}
 use Rattle.path.specs.declared.Taken.{Taken}
 use Rattle.path.proofs.Flat.{flat-got, within-flat}
-use Rattle.path.proofs.Fields.{thisIn, otherIn, offIn, prefixLength, prefixBytes, prefixGood, this-flat, other-flat, off-flat, none-flat, steps-flat}
+use Rattle.path.proofs.Fields.{this-flat, other-flat, off-flat, none-flat, steps-flat}
 use Rattle.path.proofs.Prefix.{cut-same}
 use Rattle.path.proofs.Steps.{steps-length}
-use Rattle.path.proofs.Reading.{withSteps, body-reads}
+use Rattle.path.proofs.Reading.{body-reads, counted}
 
 -- ---- an end
 
@@ -36,7 +35,7 @@ abbrev EndFound : Bytes → ℕ → P.End → Type 0
 EndFound s fields e = EndStands s (placed fields e) × (endIn s (placed fields e) ≡ e)
 
 end-found : (m k : ℕ) (s : Bytes) (fields : ℕ) (e : P.End) (r : Bytes) → Bytewise s → endOf m k .read (drop fields s) ≡ got e r → EndFound s fields e
-unfolding endOf never
+unfolding endOf never prefixGood
 end-found m zero s fields e r w h =
     let (n, _, v, _) = flat-got (this-flat m) (drop fields s) (all-drop _ fields s w) e r h in
     subst (EndFound s fields) v (omega (arith, length-drop fields s), refl)
@@ -123,12 +122,9 @@ module _ (s : Bytes) (at m : ℕ) (w : Bytewise s) (some : 1 ≤ m) (most : m �
 found : (s : Bytes) (at : ℕ) (x : P.Path) (r : Bytes) → Bytewise s → pathField .read (drop at s) ≡ got x r → PathFound s at x r
 unfolding led
 found s at x r w h =
-    let (m, q, h₁, h₂) = then-got (within 2 1 256 .read (drop at s)) _ x r h in
-    let (n, g, v, b) = flat-got (within-flat 2 1 256) (drop at s) (all-drop _ at s w) m q h₁ in
-    let k = number (take 2 (drop at s)) in
-    let low : 1 ≤ m = omega (arith, leb-true 1 k (and-left (leb 1 k) _ g)) in
-    let high : m ≤ 256 = omega (arith, leb-true k 256 (and-right (leb 1 k) _ g)) in
-    body-found s at m w low high x r (ap (pathBody m .read) (sym (drop-drop 2 at s) ∙ b) ∙ h₂)
+    let (m, q, h₁, _) = then-got (within 2 1 256 .read (drop at s)) _ x r h in
+    let c = counted s at w m q h₁ in
+    body-found s at m w (c .low) (c .high) x r (sym (c .reads) ∙ h)
 
 -- ---- a parsed path, as it is taken
 

@@ -1,19 +1,18 @@
 -- The rules of absence by the first difference: what stands at the end leaves the label behind bit k and before its own end. Assumes nothing.
-use mathlib.Core.Path.{_≡_, refl, sym, ap, ap₂, _∙_}
+use mathlib.Core.Path.{_≡_, refl, sym, ap, _∙_}
 use mathlib.Core.Logic.{_⊎_, inl, inr, ⊎-elim, by-cases}
 use mathlib.Core.Bool.{Bool, true, false, not, _&&_}
-use mathlib.Core.List.{List, [], _∷_}
-use Prim.Native.Nat.{ℕ, zero, suc, _+_, _-_, _*_, _≤_, _<_}
+use Prim.Native.Nat.{ℕ, suc, _+_, _-_, _≤_, _<_}
 use native.Mathlib.Omega.{arith}
 use native.Mathlib.Decide.{decLe}
-use lib.Dec.{leb, ltb, eqb}
+use lib.Dec.{leb, ltb}
 use lib.ListN.{length, take, drop}
-use lib.Seq.{drop-drop, length-take-le, take-all}
-use borrow.Author.Tests.{le-leb, lt-leb, leb-true, leb-false, ltb-true, lt-ltb, le-ltb, eq-eqb, not-true}
+use lib.Seq.{length-take-le, take-all}
+use borrow.Author.Tests.{le-leb, lt-leb, leb-true, leb-false, ltb-true, lt-ltb, le-ltb, eq-eqb}
 use Rattle.paper.specs.Bytes.{Bytes, number}
 use Rattle.paper.specs.Bits.{Bits, Pfx, bitsOf, starts, lcp, firstDifference}
 use Rattle.paper.specs.Path.{sameBits, absent, other, off}
-use Rattle.paper.proofs.Lists.{true-or-false, and-left, and-right, and-both, not-both}
+use Rattle.paper.proofs.Lists.{true-or-false, and-left, and-right, not-both}
 use Rattle.paper.proofs.Bits.{pfx-refl, pfx-take, pfx-trans, pfx-full, pfx-length, pfx-compare, starts-pfx, pfx-starts, lcp-left, lcp-right, lcp-most, lcp-comm}
 use Rattle.paper.proofs.Bytes.{bitsOf-length}
 use Rattle.words.proofs.Pasted.{length-part, rest-is}
@@ -44,7 +43,7 @@ first-bits x y j h =
     (λ e. let l = leb-true j (length (lcp x y)) e in
     pfx-starts (take j y) x (pfx-trans (shorter (take j y) (lcp x y) y (pfx-take j y) (lcp-right x y) (omega arith)) (lcp-left x y)))
 
--- and as many of x's own bits are not asked for more
+-- what is no longer than n bits begins x's first n bits exactly where it begins x
 within-bits : (p x : Bits) (n : ℕ) → length p ≤ n → n ≤ length x → starts p (take n x) ≡ starts p x
 within-bits p x n h l =
     let m : length (take n x) ≡ n = length-take-le n x l in

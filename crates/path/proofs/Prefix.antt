@@ -1,21 +1,21 @@
 -- "bits past the length zero": a prefix that stands in 32 bytes is its own first bits. Assumes nothing.
-use mathlib.Core.Path.{_≡_, refl, sym, ap, ap₂, _∙_}
-use mathlib.Core.Logic.{⊎-elim}
-use mathlib.Core.Bool.{Bool, true, false, not, _&&_}
-use mathlib.Core.List.{List, [], _∷_, _++_}
-use Prim.Native.Nat.{ℕ, zero, suc, _+_, _-_, _*_, _≤_, _<_}
+use mathlib.Core.Path.{_≡_, refl, sym, ap, _∙_}
+use mathlib.Core.Logic.{_⊎_, ⊎-elim}
+use mathlib.Core.Bool.{true, false, not}
+use mathlib.Core.List.{[], _∷_, _++_}
+use Prim.Native.Nat.{ℕ, zero, suc, _+_, _-_, _≤_, _<_}
 use native.Mathlib.Omega.{arith}
-use lib.ListN.{length, take, drop, replicate, length-append, length-replicate, length-take, length-drop, take-append-drop}
+use lib.ListN.{length, take, drop, replicate, length-append, length-replicate, take-append-drop}
 use lib.Seq.{drop-at, drop-drop, length-take-le}
 use Rattle.paper.specs.Lists.{every}
 use Rattle.paper.specs.Bytes.{Bytes, Bytewise, number, same}
 use Rattle.paper.specs.Bits.{Bits, bitsOf, pack}
 use Rattle.paper.proofs.Lists.{true-or-false, all-take, all-drop, not-both}
-use Rattle.paper.proofs.Bytes.{same-eq, same-refl, eq-same, bitsOf-length, bitsOf-pack, pack-bitsOf, pack-fill}
+use Rattle.paper.proofs.Bytes.{eq-same, bitsOf-length, bitsOf-pack, pack-bitsOf, pack-fill}
 use Rattle.words.proofs.Pasted.{length-part}
 use Rattle.words.proofs.Compare.{not-same}
-use Rattle.path.proofs.Flat.{inside}
-use Rattle.path.proofs.Fields.{prefixGood}
+use Rattle.path.specs.Places.{prefixGood}
+use Rattle.path.proofs.Flat.{inside, outside}
 
 zeros-are : (p : Bits) → every not p ≡ true → p ≡ replicate (length p) false
 unfolding every
@@ -47,14 +47,20 @@ module _ (x : Bytes) (n : ℕ) (h : length x ≡ 32) (w : Bytewise x) where
       ap (λ q. every not (drop n q)) (sym g) ∙ ap (every not) (drop-at (take n p) (replicate k false) n t) ∙ are-zeros k
 
   -- so it is tested by a comparison
-  pub zero-bits : n ≤ 256 → every not (drop n (bitsOf x)) ≡ same (pack 32 (take n (bitsOf x))) x
+  zero-bits : n ≤ 256 → every not (drop n (bitsOf x)) ≡ same (pack 32 (take n (bitsOf x))) x
   zero-bits l = ⊎-elim (λ e. e ∙ sym (eq-same (cut-same e))) (λ e. e ∙ sym (not-same _ x (λ q. not-both (same-cut l q) e)))
       (true-or-false (every not (drop n (bitsOf x))))
 
--- the prefix at a place, as it is read and compared
-pub prefix-tested : (s : Bytes) (at n : ℕ) (x cut : Bytes) → Bytewise s → at + 34 ≤ length s → 1 ≤ n → n ≤ 255
-    → n ≡ number (take 2 (drop at s)) → x ≡ take 32 (drop (at + 2) s) → cut ≡ pack 32 (take n (bitsOf x)) → prefixGood (drop at s) ≡ same cut x
-prefix-tested s at n x cut w h low high en ex ec =
-    let l : length x ≡ 32 = ap length ex ∙ length-part s (at + 2) 32 (omega arith) in
-    let b : Bytewise x = rw ex (all-take _ 32 (drop (at + 2) s) (all-drop _ (at + 2) s w)) in
-    rw (← en, drop-drop 2 at s, ← ex, inside 1 255 n low high, ec) (zero-bits x n l b (omega arith))
+-- the prefix at a place, as it is read and tested
+module _ (s : Bytes) (at n : ℕ) (count : n ≡ number (take 2 (drop at s))) where
+  pub prefix-long : (n < 1) ⊎ (255 < n) → prefixGood (drop at s) ≡ false
+  unfolding prefixGood
+  prefix-long h = rw (← count, outside 1 255 n h)
+
+  pub prefix-tested : (x cut : Bytes) → Bytewise s → at + 34 ≤ length s → 1 ≤ n → n ≤ 255
+      → x ≡ take 32 (drop (at + 2) s) → cut ≡ pack 32 (take n (bitsOf x)) → prefixGood (drop at s) ≡ same cut x
+  unfolding prefixGood
+  prefix-tested x cut w h low high ex ec =
+      let l : length x ≡ 32 = ap length ex ∙ length-part s (at + 2) 32 (omega arith) in
+      let b : Bytewise x = rw ex (all-take _ 32 (drop (at + 2) s) (all-drop _ (at + 2) s w)) in
+      rw (← count, drop-drop 2 at s, ← ex, inside 1 255 n low high, ec) (zero-bits x n l b (omega arith))

@@ -1,17 +1,19 @@
 -- A path's steps, one behind the other at 34 bytes each. Assumes nothing.
-use mathlib.Core.Path.{_≡_, refl, sym, ap, ap₂, _∙_, subst}
+use mathlib.Core.Path.{_≡_, refl, ap, _∙_}
 use mathlib.Core.Logic.{_⊎_, inl, inr}
-use mathlib.Core.Bool.{Bool, true, false, _&&_}
-use mathlib.Core.List.{List, [], _∷_}
+use mathlib.Core.Bool.{true, false}
+use mathlib.Core.List.{[], _∷_}
 use Prim.Native.Nat.{ℕ, zero, suc, _+_, _-_, _*_, _≤_, _<_}
 use native.Mathlib.Omega.{arith}
 use native.Mathlib.Numerals.{add-one}
-use lib.ListN.{length, take, drop, drop-of-length-le}
+use lib.Dec.{leb}
+use lib.ListN.{length, take, drop, length-drop, drop-of-length-le}
 use lib.Seq.{drop-drop}
-use borrow.Author.Tests.{le-leb, lt-leb}
+use borrow.Author.Tests.{le-leb, lt-leb, leb-true}
 use Rattle.paper.specs.Bytes.{Bytes, number}
+use Rattle.paper.proofs.Lists.{and-left}
 use Rattle.paper.specs.Path.{lastLength}
-use Rattle.path.specs.Places.{stepIn, stepsIn, ranged}
+use Rattle.path.specs.Places.{stepIn, stepsIn, ranged, rising}
 use Rattle.path.proofs.Flat.{and-false}
 
 pub steps-length : (m : ℕ) (t : Bytes) → length (stepsIn m t) ≡ m
@@ -47,8 +49,22 @@ last-at s at m h =
     let e : m ≡ suc (m - 1) = omega arith in
     ap (λ n. lastLength (stepsIn n (drop at s))) e ∙ last-step (m - 1) (drop at s) ∙ ap (λ u. number (take 2 u)) (drop-drop (34 * (m - 1)) at s)
 
--- ---- rising lengths: what the rest says, from step i on
+-- ---- rising lengths
 
+-- there is room for the steps, or not
+pub rising-room : (m : ℕ) (t : Bytes) → 34 * m ≤ length t → rising m t ≡ ranged 0 0 (stepsIn m t)
+unfolding rising
+rising-room m t h = rw (le-leb (34 * m) (length t) h)
+
+pub rising-cut : (m : ℕ) (t : Bytes) → length t < 34 * m → rising m t ≡ false
+unfolding rising
+rising-cut m t h = rw (lt-leb (34 * m) (length t) h)
+
+pub rising-there : (s : Bytes) (at m : ℕ) → at ≤ length s → rising m (drop at s) ≡ true → at + 34 * m ≤ length s
+unfolding rising
+rising-there s at m h e = omega (arith, length-drop at s, leb-true (34 * m) (length (drop at s)) (and-left (leb (34 * m) (length (drop at s))) _ e))
+
+-- what the rest says, from step i on
 module _ (s : Bytes) (at i m low high : ℕ) where
   pub rises-end : m ≤ i → ranged low high (drop i (stepsIn m (drop at s))) ≡ true
   unfolding ranged

@@ -4,7 +4,7 @@ use Prim.Native.Nat.{ℕ, _+_, _-_, _*_}
 use lib.ListN.{length, drop}
 use Rattle.paper.specs.Numbers.{wide}
 use Rattle.paper.specs.Bytes.{Bytes, zeros}
-use Rattle.paper.specs.Layout.{Layout, Read, got, bad}
+use Rattle.paper.specs.Layout.{Layout, Read, got, bad, within}
 use Rattle.paper.specs.Fields.{pathField}
 use Rattle.paper.specs.Path as P
 use Rattle.paper.specs.Path.{this, other, off, none}
@@ -38,6 +38,14 @@ endedOf n fields (got x r) = record { good = true; «end» = placed fields x; co
 -- the end that a layout reads in s from `at` on
 abbrev pub endedAt : Layout P.End → Bytes → ℕ → ℕ → Ended
 endedAt a s at fields = endedOf (length s) fields (a .read (drop at s))
+
+-- "count m (2 bytes, 1 to 256)": the count that stands at a place, and 0 where there is none
+abbrev pub countOf : Read ℕ → ℕ
+countOf bad = 0
+countOf (got m r) = m
+
+unfoldable pub countAt : Bytes → ℕ → ℕ
+countAt s at = countOf (within 2 1 256 .read (drop at s))
 
 -- a path that was read in n bytes from `at` on: its count takes two bytes, each step 34, and its end's kind one
 abbrev pub noPath : Path

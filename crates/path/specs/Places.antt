@@ -1,10 +1,11 @@
 -- What stands at the places of a parsed path: its steps, its end, and the path as document 01's value.
 use mathlib.Core.Path.{_≡_}
-use mathlib.Core.Bool.{Bool, true, _&&_}
+use mathlib.Core.Bool.{Bool, true, not, _&&_}
 use mathlib.Core.List.{List, [], _∷_}
 use Prim.Native.Nat.{ℕ, zero, suc, _+_, _*_, _≤_, _<_}
 use lib.Dec.{leb}
 use lib.ListN.{length, take, drop}
+use Rattle.paper.specs.Lists.{every}
 use Rattle.paper.specs.Numbers.{wide}
 use Rattle.paper.specs.Bytes.{Bytes, number}
 use Rattle.paper.specs.Bits.{Bits, bitsOf, pack}
@@ -23,10 +24,6 @@ unfoldable pub stepsIn : ℕ → Bytes → List Step
 stepsIn zero s = []
 stepsIn (suc m) s = stepIn s ∷ stepsIn m (drop 34 s)
 
--- the prefix, or label, of n bits in the 32 bytes at a place
-abbrev pub bitsIn : Bytes → ℕ → ℕ → Bits
-bitsIn s at n = take n (bitsOf (take 32 (drop at s)))
-
 -- the end whose fields stand at its place
 abbrev pub endIn : Bytes → End → P.End
 endIn s (This at e) = this (take 32 (drop at s)) e
@@ -42,13 +39,27 @@ unfoldable pub ranged : ℕ → ℕ → List Step → Bool
 ranged low high [] = true
 ranged low high (s ∷ ss) = leb low (s .length) && (leb (s .length) high && ranged (suc (s .length)) 255 ss)
 
+-- m steps that stand at the front of some bytes and whose lengths are so
+unfoldable pub rising : ℕ → Bytes → Bool
+rising m s = leb (34 * m) (length s) && ranged 0 0 (stepsIn m s)
+
+-- "prefix length 2, prefix 32 (bits past the length zero)", "length 1 to 255"
+abbrev pub prefixLength : Bytes → ℕ
+prefixLength s = number (take 2 s)
+
+abbrev pub prefixBytes : Bytes → Bytes
+prefixBytes s = take 32 (drop 2 s)
+
+unfoldable pub prefixGood : Bytes → Bool
+prefixGood s = (leb 1 (prefixLength s) && leb (prefixLength s) 255) && every not (drop (prefixLength s) (bitsOf (prefixBytes s)))
+
 -- the digest at the top of steps, over the digest of what is below them
 unfoldable pub climbed : Bits → List Step → Bytes → Bytes
 climbed L [] d = d
 climbed L (s ∷ ss) d = digest (stepNode L s (climbed L ss d))
 
 -- a step stands whole at a place, and its prefix is one of a label
-pub record Stands (s : Bytes) (at : ℕ) : Type 0 where
+pub record StepStands (s : Bytes) (at : ℕ) : Type 0 where
   pub room : at + 34 ≤ length s
   pub short : number (take 2 (drop at s)) ≤ 255
 
@@ -65,5 +76,5 @@ pub record PathStands (s : Bytes) (p : Path) : Type 0 where
   pub some : 1 ≤ p .count
   pub most : p .count ≤ 256
   pub room : p .steps + 34 * p .count ≤ length s
-  pub each : (i : ℕ) → i < p .count → Stands s (p .steps + 34 * i)
+  pub each : (i : ℕ) → i < p .count → StepStands s (p .steps + 34 * i)
   pub last : EndStands s (p .«end»)

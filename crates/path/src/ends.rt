@@ -6,10 +6,11 @@ use words::read16;
 use words::read32;
 use words::same;
 ghost use mathlib.Core.Path.{_≡_};
-ghost use Prim.Native.Nat.{_+_, _≤_};
-ghost use lib.ListN.{length};
+ghost use Prim.Native.Nat.{ℕ, _+_, _≤_};
+ghost use lib.ListN.{length, drop};
 ghost use Rattle.paper.specs.Fields.{endOf, endField};
 ghost use Rattle.path.specs.Parsed.{endedAt, noEnd};
+ghost use Rattle.path.specs.Places.{prefixGood};
 
 // An end as it was read from some place on, and the place behind it.
 pub struct Ended {
@@ -30,10 +31,10 @@ fn no_end() -> Ended
     }
 }
 
-// "0, this leaf: commitment, epoch."
-fn this_leaf(s: &[u8], at: usize, m: usize) -> Ended
+// "0, this leaf: commitment, epoch.", whatever m is
+fn this_leaf(s: &[u8], at: usize) -> Ended
     requires { ⌜ at ≤ length (now s) ⌝ }
-    ensures { λ r. ⌜ r ≡ endedAt (endOf m 0) (now (s .entry)) at at ⌝ }
+    ensures { λ r. ⌜ ((m : ℕ) → r ≡ endedAt (endOf m 0) (now (s .entry)) at at) ⌝ }
 {
     if s.len() - at < 36 {
         return no_end();
@@ -48,10 +49,10 @@ fn this_leaf(s: &[u8], at: usize, m: usize) -> Ended
     }
 }
 
-// "1, another leaf: label, commitment, epoch."
-fn other_leaf(s: &[u8], at: usize, m: usize) -> Ended
+// "1, another leaf: label, commitment, epoch.", whatever m is
+fn other_leaf(s: &[u8], at: usize) -> Ended
     requires { ⌜ at ≤ length (now s) ⌝ }
-    ensures { λ r. ⌜ r ≡ endedAt (endOf m 1) (now (s .entry)) at at ⌝ }
+    ensures { λ r. ⌜ ((m : ℕ) → r ≡ endedAt (endOf m 1) (now (s .entry)) at at) ⌝ }
 {
     if s.len() - at < 68 {
         return no_end();
@@ -65,21 +66,29 @@ fn other_leaf(s: &[u8], at: usize, m: usize) -> Ended
     }
 }
 
-// "2, another inner node: its 98 bytes after 0x01, length 1 to 255.", "bits past the length zero"
-fn other_inner(s: &[u8], at: usize, m: usize) -> Ended
+// "prefix length 2, prefix 32 (bits past the length zero)", "length 1 to 255": such a prefix is its own first bits.
+fn prefix_good(s: &[u8], at: usize) -> bool
+    requires { ⌜ at + 34 ≤ length (now s) ⌝ }
+    ensures { λ r. ⌜ r ≡ prefixGood (drop at (now (s .entry))) ⌝ }
+{
+    let length = read16(s, at);
+    if length < 1 || 255 < length {
+        return false;
+    }
+    let prefix = digest_at(s, at + 2);
+    let cut = prefix_of(&prefix, length as usize);
+    same(&cut, &prefix)
+}
+
+// "2, another inner node: its 98 bytes after 0x01, length 1 to 255.", whatever m is
+fn other_inner(s: &[u8], at: usize) -> Ended
     requires { ⌜ at ≤ length (now s) ⌝ }
-    ensures { λ r. ⌜ r ≡ endedAt (endOf m 2) (now (s .entry)) at at ⌝ }
+    ensures { λ r. ⌜ ((m : ℕ) → r ≡ endedAt (endOf m 2) (now (s .entry)) at at) ⌝ }
 {
     if s.len() - at < 98 {
         return no_end();
     }
-    let length = read16(s, at);
-    if length < 1 || 255 < length {
-        return no_end();
-    }
-    let prefix = digest_at(s, at + 2);
-    let cut = prefix_of(&prefix, length as usize);
-    if !same(&cut, &prefix) {
+    if !prefix_good(s, at) {
         return no_end();
     }
     Ended {
@@ -90,23 +99,7 @@ fn other_inner(s: &[u8], at: usize, m: usize) -> Ended
     }
 }
 
-// "3, nothing, only with m = 1."
-fn nothing(s: &[u8], at: usize, m: usize) -> Ended
-    requires { ⌜ at ≤ length (now s) ⌝ }
-    ensures { λ r. ⌜ r ≡ endedAt (endOf m 3) (now (s .entry)) at at ⌝ }
-{
-    if m != 1 {
-        return no_end();
-    }
-    Ended {
-        good: true,
-        end: End::Nothing,
-        commitment: [0u8; 32],
-        next: at,
-    }
-}
-
-// The end of a path of m steps, from its kind on.
+// The end of a path of m steps, from its kind on. "3, nothing, only with m = 1."
 pub fn end_at(s: &[u8], at: usize, m: usize) -> Ended
     requires { ⌜ at ≤ length (now s) ⌝ }
     ensures { λ r. ⌜ r ≡ endedAt (endField m) (now (s .entry)) at (at + 1) ⌝ }
@@ -116,10 +109,20 @@ pub fn end_at(s: &[u8], at: usize, m: usize) -> Ended
     }
     let fields = at + 1;
     match s[at] {
-        0 => this_leaf(s, fields, m),
-        1 => other_leaf(s, fields, m),
-        2 => other_inner(s, fields, m),
-        3 => nothing(s, fields, m),
+        0 => this_leaf(s, fields),
+        1 => other_leaf(s, fields),
+        2 => other_inner(s, fields),
+        3 => {
+            if m != 1 {
+                return no_end();
+            }
+            Ended {
+                good: true,
+                end: End::Nothing,
+                commitment: [0u8; 32],
+                next: fields,
+            }
+        }
         _ => no_end(),
     }
 }

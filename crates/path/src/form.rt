@@ -4,10 +4,10 @@ use crate::Path;
 use crate::ends::end_at;
 use words::read16;
 ghost use mathlib.Core.Path.{_≡_};
-ghost use Prim.Native.Nat.{_+_, _*_, _≤_};
+ghost use Prim.Native.Nat.{_≤_};
 ghost use lib.ListN.{length, drop};
-ghost use Rattle.path.specs.Parsed.{noPath, pathAt};
-ghost use Rattle.path.specs.Places.{stepsIn, ranged};
+ghost use Rattle.path.specs.Parsed.{countAt, noPath, pathAt};
+ghost use Rattle.path.specs.Places.{rising};
 
 fn no_path() -> Path
     ensures { λ r. ⌜ r ≡ noPath ⌝ }
@@ -22,11 +22,28 @@ fn no_path() -> Path
     }
 }
 
-// "Lengths begin at 0, rise strictly and are at most 255": each is from `low` to `high`.
-fn rises(s: &[u8], at: usize, m: usize) -> bool
-    requires { ⌜ at + 34 * m ≤ length (now s) ⌝ }
-    ensures { λ r. ⌜ r ≡ ranged 0 0 (stepsIn m (drop at (now (s .entry)))) ⌝ }
+// "count m (2 bytes, 1 to 256)", and 0 where there is none
+fn count_at(s: &[u8], at: usize) -> usize
+    ensures { λ r. ⌜ r ≡ countAt (now (s .entry)) at ⌝ }
 {
+    if s.len() < 2 || s.len() - 2 < at {
+        return 0;
+    }
+    let count = read16(s, at) as usize;
+    if 256 < count {
+        return 0;
+    }
+    count
+}
+
+// "m steps", whose "Lengths begin at 0, rise strictly and are at most 255": each is from `low` to `high`.
+fn rises(s: &[u8], at: usize, m: usize) -> bool
+    requires { ⌜ (at ≤ length (now s)) × (m ≤ 256) ⌝ }
+    ensures { λ r. ⌜ r ≡ rising m (drop at (now (s .entry))) ⌝ }
+{
+    if s.len() - at < 34 * m {
+        return false;
+    }
     let mut low = 0;
     let mut high = 0;
     for i in 0..m {
@@ -44,14 +61,11 @@ fn rises(s: &[u8], at: usize, m: usize) -> bool
 pub fn parse(s: &[u8], at: usize) -> Path
     ensures { λ r. ⌜ r ≡ pathAt (now (s .entry)) at ⌝ }
 {
-    if s.len() < 2 || s.len() - 2 < at {
+    let count = count_at(s, at);
+    if count == 0 {
         return no_path();
     }
-    let count = read16(s, at) as usize;
     let steps = at + 2;
-    if count < 1 || 256 < count || s.len() - steps < 34 * count {
-        return no_path();
-    }
     if !rises(s, steps, count) {
         return no_path();
     }

@@ -10,7 +10,7 @@ pub use form::parse;
 use root::root_of;
 use words::same;
 ghost use mathlib.Core.Path.{_≡_};
-ghost use Rattle.path.specs.Taken as T;
+ghost use Rattle.path.specs.Taken.{taken};
 
 // How a path ends, with the place of the end's fields, right behind its kind, and the epoch of its leaf.
 pub enum End {
@@ -49,7 +49,7 @@ pub struct Taken {
 
 // The path that stands in `s` from `at` on, taken for `label` in the tree with that root.
 pub fn take(s: &[u8], at: usize, label: [u8; 32], root: [u8; 32]) -> Taken
-    ensures { λ r. ⌜ r ≡ T.taken (now (s .entry)) at label root ⌝ }
+    ensures { λ r. ⌜ r ≡ taken (now (s .entry)) at label root ⌝ }
 {
     let path = parse(s, at);
     if !path.good {

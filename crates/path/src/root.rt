@@ -19,11 +19,11 @@ ghost use Rattle.paper.specs.Bits.{bitsOf};
 ghost use Rattle.paper.specs.Strings.{leafString, innerString};
 ghost use Rattle.paper.specs.Tree.{digest};
 ghost use Rattle.paper.specs.Path.{stepNode, endNode, pathRoot};
-ghost use Rattle.path.specs.Places.{stepIn, stepsIn, endIn, pathIn, climbed, Stands, EndStands, PathStands};
+ghost use Rattle.path.specs.Places.{stepIn, stepsIn, endIn, pathIn, climbed, StepStands, EndStands, PathStands};
 
 // "a step's prefix is the label's first bits", and the bit after it says on which side the digest from below stands.
 fn step_up(s: &[u8], at: usize, label: [u8; 32], below: &[u8; 32]) -> [u8; 32]
-    requires { ⌜ Stands (now s) at ⌝ }
+    requires { ⌜ StepStands (now s) at ⌝ }
     ensures { λ r. ⌜ r ≡ digest (stepNode (bitsOf label) (stepIn (drop at (now (s .entry)))) (now (below .entry))) ⌝ }
 {
     let length = read16(s, at);
@@ -35,7 +35,7 @@ fn step_up(s: &[u8], at: usize, label: [u8; 32], below: &[u8; 32]) -> [u8; 32]
 
 // From the digest `end` up to the root.
 fn climb(s: &[u8], at: usize, m: usize, label: [u8; 32], end: [u8; 32]) -> [u8; 32]
-    requires { ⌜ (at + 34 * m ≤ length (now s)) × ((i : ℕ) → i < m → Stands (now s) (at + 34 * i)) ⌝ }
+    requires { ⌜ (at + 34 * m ≤ length (now s)) × ((i : ℕ) → i < m → StepStands (now s) (at + 34 * i)) ⌝ }
     ensures { λ r. ⌜ r ≡ climbed (bitsOf label) (stepsIn m (drop at (now (s .entry)))) «end» ⌝ }
 {
     let mut below = end;
@@ -57,7 +57,7 @@ fn leaf_at(s: &[u8], at: usize, label: [u8; 32], epoch: u32) -> [u8; 32]
 }
 
 // The leaf whose label and commitment stand at `at`.
-fn other_leaf(s: &[u8], at: usize, epoch: u32) -> [u8; 32]
+fn other_leaf_at(s: &[u8], at: usize, epoch: u32) -> [u8; 32]
     requires { ⌜ at + 64 ≤ length (now s) ⌝ }
     ensures { λ r. ⌜ r ≡ sha256 (leafString (take 32 (drop at (now (s .entry)))) (take 32 (drop (at + 32) (now (s .entry)))) epoch) ⌝ }
 {
@@ -66,7 +66,7 @@ fn other_leaf(s: &[u8], at: usize, epoch: u32) -> [u8; 32]
 }
 
 // The inner node whose 98 bytes stand at `at`.
-fn other_inner(s: &[u8], at: usize) -> [u8; 32]
+fn inner_at(s: &[u8], at: usize) -> [u8; 32]
     requires { ⌜ at + 98 ≤ length (now s) ⌝ }
     ensures { λ r. ⌜ r ≡ sha256 (innerString (number (take 2 (drop at (now (s .entry))))) (take 32 (drop (at + 2) (now (s .entry)))) (take 32 (drop (at + 34) (now (s .entry)))) (take 32 (drop (at + 66) (now (s .entry))))) ⌝ }
 {
@@ -84,8 +84,8 @@ fn end_digest(s: &[u8], label: [u8; 32], end: End) -> [u8; 32]
 {
     match end {
         End::This { at, epoch } => leaf_at(s, at, label, epoch),
-        End::Other { at, epoch } => other_leaf(s, at, epoch),
-        End::Off { at } => other_inner(s, at),
+        End::Other { at, epoch } => other_leaf_at(s, at, epoch),
+        End::Off { at } => inner_at(s, at),
         End::Nothing => nothing(),
     }
 }

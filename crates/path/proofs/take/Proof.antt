@@ -2,12 +2,11 @@
 use borrow.Author.Needs.{needs}
 use borrow.Author.Tests.{not-true, not-false}
 use native.Mathlib.Omega.{arith}
-use mathlib.Core.Path.{_≡_, sym, ap, ap₂, _∙_}
-use mathlib.Core.Bool.{true}
+use mathlib.Core.Path.{sym}
 use Rattle.paper.specs.Bytes.{Bytewise, same}
 use Rattle.path.specs.Places.{PathStands}
 use Rattle.path.proofs.Ending.{bytewise}
-use Rattle.path.proofs.Found.{takenAs, path-stands, taken-bad, taken-good}
+use Rattle.path.proofs.Found.{path-stands, taken-bad, taken-good}
 use Rattle.path.proofs.take.Statement.{statement}
 use Rattle.path.proofs.take.Tie as tie
 

@@ -2,7 +2,7 @@
 use borrow.Author.Needs.{needs}
 use native.Mathlib.Omega.{arith}
 use mathlib.Core.Path.{_≡_, sym, ap, _∙_}
-use Prim.Native.Nat.{ℕ, _+_, _-_, _*_, _≤_}
+use Prim.Native.Nat.{_+_, _-_, _*_, _≤_}
 use lib.ListN.{drop}
 use Rattle.paper.specs.Bits.{bitsOf}
 use Rattle.paper.specs.Tree.{digest}

@@ -1,15 +1,11 @@
 -- `path::root::end_digest`: each kind's digest is that of the end at its place.
 use borrow.Author.Needs.{needs}
 use native.Mathlib.Omega.{arith}
-use mathlib.Core.Path.{_≡_, sym, ap, _∙_, subst}
+use mathlib.Core.Path.{_∙_}
 use Rattle.paper.specs.Bytes.{Bytewise}
-use Rattle.paper.specs.Bits.{bitsOf}
-use Rattle.paper.specs.Path.{endNode}
-use Rattle.paper.specs.Tree.{digest}
 use Rattle.paper.proofs.Fits.{Wide}
-use Rattle.path.specs.Places.{endIn, EndStands}
 use Rattle.path.proofs.Ending.{bytewise}
-use Rattle.path.proofs.Climb.{EndDigest, this-digest, other-digest, off-digest}
+use Rattle.path.proofs.Climb.{this-digest, other-digest, off-digest}
 use Rattle.path.proofs.root.end_digest.Statement.{statement}
 use Rattle.path.proofs.root.end_digest.Tie as tie
 
@@ -25,8 +21,8 @@ leaf-at-requires c κs =
 enum-known-end-2 : tie.Need-enum-known-end-2
 enum-known-end-2 c = search needs
 
-other-leaf-requires : tie.Need-other-leaf-requires
-other-leaf-requires c κs =
+other-leaf-at-requires : tie.Need-other-leaf-at-requires
+other-leaf-at-requires c κs =
     let st = c .before .before .before .before in
     let h = rw (c .before .end2 .given .1) at (st .pre) in
     omega arith
@@ -34,8 +30,8 @@ other-leaf-requires c κs =
 enum-known-end-3 : tie.Need-enum-known-end-3
 enum-known-end-3 c = search needs
 
-other-inner-requires : tie.Need-other-inner-requires
-other-inner-requires c κs =
+inner-at-requires : tie.Need-inner-at-requires
+inner-at-requires c κs =
     let st = c .before .before .before .before in
     let h = rw (c .before .end3 .given .1) at (st .pre) in
     h .0
@@ -66,7 +62,7 @@ returns-2 c =
     let st = k .before in
     let e = c .before .before .end2 .given .1 in
     let h = rw e at (st .pre) in
-    c .other-leaf .ensures ∙ rw e (other-digest (st .args .label) (st .args .s .now) (label-is st) (bytes k) _ _ h)
+    c .other-leaf-at .ensures ∙ rw e (other-digest (st .args .label) (st .args .s .now) (label-is st) (bytes k) _ _ h)
 
 returns-3 : tie.Need-returns-3
 returns-3 c =
@@ -74,7 +70,7 @@ returns-3 c =
     let st = k .before in
     let e = c .before .before .end3 .given .1 in
     let h = rw e at (st .pre) in
-    c .other-inner .ensures ∙ rw e (off-digest (st .args .label) (st .args .s .now) (label-is st) (bytes k) _ h)
+    c .inner-at .ensures ∙ rw e (off-digest (st .args .label) (st .args .s .now) (label-is st) (bytes k) _ h)
 
 returns-4 : tie.Need-returns-4
 returns-4 c = c .nothing .ensures ∙ rw (c .before .enum-told .given .1)
@@ -86,9 +82,9 @@ end-digest-spec =
     enum-known-end
     leaf-at-requires
     enum-known-end-2
-    other-leaf-requires
+    other-leaf-at-requires
     enum-known-end-3
-    other-inner-requires
+    inner-at-requires
     enum-told
     nothing-requires
     returns

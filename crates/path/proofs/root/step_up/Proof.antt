@@ -1,6 +1,5 @@
 -- `path::root::step_up`: the parts that are read and cut are those of the step's node.
 use borrow.Author.Needs.{needs}
-use native.Mathlib.Omega.{arith}
 use mathlib.Core.Path.{_≡_, _∙_}
 use lib.ListN.{length}
 use Rattle.path.proofs.Climb.{step-digest}

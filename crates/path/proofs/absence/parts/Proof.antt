@@ -1,14 +1,14 @@
--- `path::absence::part`: the two tests are those of the rule.
+-- `path::absence::parts`: the two tests are those of the rule.
 use borrow.Author.Needs.{needs}
 use borrow.Author.Tests.{leb-true, leb-false}
 use native.Mathlib.Omega.{arith}
-use mathlib.Core.Path.{_≡_, sym, ap, _∙_}
+use mathlib.Core.Path.{_≡_, sym, _∙_}
 use mathlib.Core.Logic.{inl, inr, ⊎-elim}
 use lib.ListN.{length, take, drop}
 use Rattle.paper.specs.Bits.{firstDifference}
 use Rattle.path.proofs.Parting.{parting-yes, parting-no, difference-at}
-use Rattle.path.proofs.absence.part.Statement.{statement}
-use Rattle.path.proofs.absence.part.Tie as tie
+use Rattle.path.proofs.absence.parts.Statement.{statement}
+use Rattle.path.proofs.absence.parts.Tie as tie
 
 sub-first-difference : tie.Need-sub-first-difference
 sub-first-difference c = search needs
@@ -48,8 +48,8 @@ returns-2 c =
     let a = d .before .before .before .before .args in
     rw (← (found d)) (sym (parting-yes (a .k) (a .n) (d .first-difference .result) (search needs) (omega (arith, leb-false))))
 
-pub part-spec : {M : Type 1} → statement M
-part-spec =
+pub parts-spec : {M : Type 1} → statement M
+parts-spec =
     tie.close
     (tie.spec
     sub-first-difference

@@ -1,8 +1,8 @@
--- `path::root::other_inner`: the node's parts are those at the place.
+-- `path::root::inner_at`: the node's parts are those at the place.
 use borrow.Author.Needs.{needs}
 use mathlib.Core.Path.{_∙_}
-use Rattle.path.proofs.root.other_inner.Statement.{statement}
-use Rattle.path.proofs.root.other_inner.Tie as tie
+use Rattle.path.proofs.root.inner_at.Statement.{statement}
+use Rattle.path.proofs.root.inner_at.Tie as tie
 
 read16-requires : tie.Need-read16-requires
 read16-requires c κs = search needs
@@ -35,8 +35,8 @@ returns c =
     let prefix = left .before in
     c .inner .ensures ∙ rw (prefix .before .read16 .ensures, prefix .digest-at .ensures, left .digest-at2 .ensures, right .digest-at3 .ensures)
 
-pub other-inner-spec : {M : Type 1} → statement M
-other-inner-spec =
+pub inner-at-spec : {M : Type 1} → statement M
+inner-at-spec =
     tie.close
     (tie.spec
     read16-requires
