@@ -1,0 +1,7 @@
+-- Laws of what lookup and history checks share.
+pub mod Named
+pub mod Behind
+pub mod Keyed
+pub mod Fronts
+pub mod Formed
+pub mod Walked

@@ -1,0 +1,89 @@
+-- Paths taken in order, each for what is asked of it.
+use mathlib.Core.Bool.{Bool, false, not, _&&_}
+use mathlib.Core.List.{List, [], _∷_}
+use Prim.Native.Nat.{ℕ, _+_, _-_, _^_, _≤_, _<_}
+use lib.Dec.{leb}
+use lib.ListN.{length, drop}
+use Rattle.paper.specs.Numbers.{FORM, nameMost}
+use Rattle.paper.specs.Bytes.{Bytes, same}
+use Rattle.paper.specs.Labelling.{plain}
+use Rattle.paper.specs.Layout.{Read, got, bad}
+use Rattle.paper.specs.Fields.{pathField}
+use Rattle.paper.specs.Path.{Path, epochOf}
+use Rattle.paper.specs.Verdict.{verdict}
+use Rattle.paper.specs.Shows.{kindOf, numberOf, Terms, pathTests}
+use Rattle.paper.specs.Shows as S
+use Rattle.path.specs.declared.Shown.{Shown}
+use Rattle.path.specs.declared.Shown.the-variants.{Present, Absent, Neither}
+use Rattle.shown.specs.declared.Place.{Place}
+use Rattle.shown.specs.declared.Place.the-variants.{InAll, InOld, AsMarker}
+use Rattle.shown.specs.declared.Asked.{Asked}
+use Rattle.shown.specs.declared.Walk.{Walk}
+use Rattle.shown.specs.declared.Walk.the-variants.{On, Refused}
+use Rattle.shown.specs.Form.{headIn}
+
+-- a place, what is asked of it, and the terms, as document 01's definitions have them
+abbrev pub placeOf : Place → S.Place
+placeOf (InAll i) = S.inAll i
+placeOf (InOld i) = S.inOld i
+placeOf (AsMarker j) = S.asMarker j
+
+abbrev pub askedOf : Asked → S.Asked
+askedOf a = record { place = placeOf (a .place); there = a .there }
+
+abbrev pub termsOf : Asked → Terms
+termsOf a = record { commitment = λ _. a .commitment; epoch = λ _ e. leb (a .low) e && leb e (a .high) }
+
+-- the label of a place
+abbrev pub labelOf : Bytes → Place → Bytes
+labelOf name x = plain .label (kindOf (placeOf x)) (numberOf (placeOf x)) name
+
+-- whether what a path shows, with the commitment of its leaf, is what is asked
+abbrev pub onTerms : Asked → Bytes → ℕ → Bool
+onTerms a commitment e = same commitment (a .commitment) && (leb (a .low) e && leb e (a .high))
+
+abbrev pub metBy : Asked → Bytes → Shown → Bool
+metBy a commitment (Present e) = a .there && onTerms a commitment e
+metBy a commitment Absent = not (a .there)
+metBy a commitment Neither = false
+
+abbrev pub leafEpoch : Shown → ℕ
+leafEpoch (Present e) = e
+leafEpoch Absent = 0
+leafEpoch Neither = 0
+
+module _ (s name : Bytes) where
+  -- the path that was read is taken: its two tests, and what it counts, "m+2 for each path (its label, m nodes, its end)"
+  abbrev pub steppedOf : Asked → ℕ → Read Path → Walk
+  steppedOf a digests bad = Refused FORM
+  steppedOf a digests (got x r) =
+      verdict Refused (On (length s - length r) (digests + length (x .steps) + 2) (epochOf (x .end)))
+      (pathTests plain name (headIn s) (termsOf a) (askedOf a ∷ []) (x ∷ []))
+
+  -- the path that stands at a place
+  unfoldable pub stepped : Asked → ℕ → ℕ → Walk
+  stepped a at digests = steppedOf a digests (pathField .read (drop at s))
+
+  abbrev pub walked : Asked → Walk → Walk
+  walked a (Refused n) = Refused n
+  walked a (On at digests e) = stepped a at digests
+
+  -- all that is asked, in order
+  unfoldable pub walks : List Asked → Walk → Walk
+  walks [] w = w
+  walks (a ∷ l) w = walks l (walked a w)
+
+  -- there is a front, the name is short, and the count has room for one path more
+  pub record StepReady (digests : ℕ) : Type 0 where
+    pub front : 106 ≤ length s
+    pub short : length name ≤ nameMost
+    pub room : digests + 258 < 2 ^ 32
+
+  abbrev pub Ready : Walk → Type 0
+  Ready (Refused n) = Unit {0}
+  Ready (On at digests e) = StepReady digests
+
+-- the epoch of the leaf that the last path showed
+abbrev pub epochIn : Walk → ℕ
+epochIn (On at digests e) = e
+epochIn (Refused n) = 0

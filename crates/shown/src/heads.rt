@@ -1,0 +1,38 @@
+// The head in a proof's front: "the 100 bytes of a head after its 0x03", behind the six bytes of the header.
+use crate::Place;
+use words::digest_at;
+use words::read32;
+use words::same;
+ghost use mathlib.Core.Path.{_≡_};
+ghost use Prim.Native.Nat.{_≤_};
+ghost use lib.ListN.{length};
+ghost use Rattle.fips.specs.Sha256.{sha256};
+ghost use Rattle.paper.specs.Bytes as B;
+ghost use Rattle.paper.specs.Strings.{headString};
+ghost use Rattle.paper.specs.Shows.{rootAt};
+ghost use Rattle.shown.specs.Form.{headIn};
+ghost use Rattle.shown.specs.Walk.{placeOf};
+
+// "an opening does not hash to its head": whether it does.
+pub fn head_hashes(s: &[u8], head: &[u8]) -> bool
+    requires { ⌜ 106 ≤ length (now s) ⌝ }
+    ensures { λ r. ⌜ r ≡ B.same (sha256 (headString (headIn (now (s .entry))))) (now (head .entry)) ⌝ }
+{
+    let previous = digest_at(s, 10);
+    let all = digest_at(s, 42);
+    let old = digest_at(s, 74);
+    let digest = strings::head(read32(s, 6), &previous, &all, &old);
+    same(&digest, head)
+}
+
+// The root of the tree that a place is in.
+pub fn root_at(s: &[u8], place: Place) -> [u8; 32]
+    requires { ⌜ 106 ≤ length (now s) ⌝ }
+    ensures { λ r. ⌜ r ≡ rootAt (headIn (now (s .entry))) (placeOf place) ⌝ }
+{
+    match place {
+        Place::InAll(_) => digest_at(s, 42),
+        Place::InOld(_) => digest_at(s, 74),
+        Place::AsMarker(_) => digest_at(s, 42),
+    }
+}

@@ -1,0 +1,66 @@
+// What a lookup check and a history check share. Each is lent a head, a name and the bytes of a proof. The layout of the whole
+// proof is tested before anything is hashed; then the paths are taken in order, each from the place behind the one before.
+// A proof is never copied: what is known of it are places in it and numbers.
+mod heads;
+mod items;
+mod layout;
+mod names;
+mod walks;
+
+pub use heads::head_hashes;
+pub use items::commitment_at;
+pub use items::item_after;
+pub use layout::first_path;
+pub use layout::read_front;
+pub use names::is_name;
+pub use walks::epoch_of;
+pub use walks::missing;
+pub use walks::present;
+pub use walks::take_path;
+
+// "Numbers that say no", those of a lookup or history check.
+pub const INPUT: u8 = 1;
+
+pub const FORM: u8 = 2;
+
+pub const HEAD: u8 = 3;
+
+pub const ROOT: u8 = 4;
+
+pub const RULE: u8 = 5;
+
+// The place behind what was read, if anything was.
+pub enum After {
+    At(usize),
+    Nowhere,
+}
+
+// What the 108 bytes of header, head and number say, where they are in layout: the number, and the head's epoch.
+pub enum Front {
+    Read { number: u16, epoch: u32 },
+    Bad,
+}
+
+// A place in the trees: a version in *all*, a version in *old*, a marker in *all*.
+pub enum Place {
+    InAll(u16),
+    InOld(u16),
+    AsMarker(u16),
+}
+
+// What a path is asked to show of a place: that its label is not there; or that it is, with a commitment, at an epoch from
+// `low` to `high`.
+pub struct Asked {
+    pub place: Place,
+    pub there: bool,
+    pub commitment: [u8; 32],
+    pub low: u64,
+    pub high: u64,
+}
+
+// How far the paths have been taken: the place of the next one, the digests counted so far, and the epoch of the leaf that the
+// last path showed, 0 where it showed none; or the first refusal.
+pub enum Walk {
+    On { at: usize, digests: u32, epoch: u32 },
+    Refused(u8),
+}
