@@ -35,7 +35,7 @@ fn parts(s: &[u8], at: usize, n: usize, label: [u8; 32], k: usize) -> Shown
 }
 
 // What a parsed path shows of a label.
-pub fn shows(s: &[u8], label: [u8; 32], path: Path) -> Shown
+pub(crate) fn shows(s: &[u8], label: [u8; 32], path: Path) -> Shown
     requires { ⌜ PathStands (now s) path ⌝ }
     ensures { λ r. ⌜ r ≡ shownBy (bitsOf label) (pathIn (now (s .entry)) path) ⌝ }
 {

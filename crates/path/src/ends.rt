@@ -100,7 +100,7 @@ fn other_inner(s: &[u8], at: usize) -> Ended
 }
 
 // The end of a path of m steps, from its kind on. "3, nothing, only with m = 1."
-pub fn end_at(s: &[u8], at: usize, m: usize) -> Ended
+pub(crate) fn end_at(s: &[u8], at: usize, m: usize) -> Ended
     requires { ⌜ at ≤ length (now s) ⌝ }
     ensures { λ r. ⌜ r ≡ endedAt (endField m) (now (s .entry)) at (at + 1) ⌝ }
 {

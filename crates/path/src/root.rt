@@ -91,7 +91,7 @@ fn end_digest(s: &[u8], label: [u8; 32], end: End) -> [u8; 32]
 }
 
 // The root that a parsed path gives for a label.
-pub fn root_of(s: &[u8], label: [u8; 32], path: Path) -> [u8; 32]
+pub(crate) fn root_of(s: &[u8], label: [u8; 32], path: Path) -> [u8; 32]
     requires { ⌜ PathStands (now s) path ⌝ }
     ensures { λ r. ⌜ r ≡ pathRoot (bitsOf label) (pathIn (now (s .entry)) path) ⌝ }
 {

@@ -26,7 +26,7 @@ pub fn head_hashes(s: &[u8], head: &[u8]) -> bool
 }
 
 // The root of the tree that a place is in.
-pub fn root_at(s: &[u8], place: Place) -> [u8; 32]
+pub(crate) fn root_at(s: &[u8], place: Place) -> [u8; 32]
     requires { ⌜ 106 ≤ length (now s) ⌝ }
     ensures { λ r. ⌜ r ≡ rootAt (headIn (now (s .entry))) (placeOf place) ⌝ }
 {

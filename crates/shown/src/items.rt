@@ -24,7 +24,7 @@ pub fn item_after(s: &[u8], at: usize) -> After
 }
 
 // The place behind k items.
-pub fn items_after(s: &[u8], at: usize, k: usize) -> After
+pub(crate) fn items_after(s: &[u8], at: usize, k: usize) -> After
     requires { ⌜ at ≤ length (now s) ⌝ }
     ensures { λ r. ⌜ r ≡ afterAt (times k itemField) (now (s .entry)) at ⌝ }
 {
