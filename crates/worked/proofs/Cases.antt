@@ -43,7 +43,7 @@ pub empty-step : auditValues (checkAudit (84 ∷ 129 ∷ 22 ∷ 33 ∷ 161 ∷ 1
 unfolding F.mix F.schedule F.round F.rounds F.compress F.be64 F.zeros F.pad F.parse F.hash F.digest F.sha256 every be number same toBits bitsOf fromBits pack starts leafString innerString nothingString headBytes headString labelString commitmentString block fixed within seq led times timesRead timesBytes such view never isName riseFrom rise endOf verdict keep side build root recordOf olds news inOrder auditTests auditStrings checkAudit
 empty-step = refl
 
--- a proof for another name is refused at its first path, by a name that breaks the bounds before that, and bytes out of layout
+-- a name that breaks the bounds is refused whatever the proof
 pub bad-name : lookupNumber (checkLookup plain (90 ∷ 130 ∷ 232 ∷ 110 ∷ 236 ∷ 79 ∷ 141 ∷ 195 ∷ 212 ∷ 48 ∷ 213 ∷ 125 ∷ 72 ∷ 225 ∷ 238 ∷ 59 ∷ 20 ∷ 25 ∷ 96 ∷ 46 ∷ 48 ∷ 112 ∷ 7 ∷ 62 ∷ 2 ∷ 61 ∷ 51 ∷ 155 ∷ 104 ∷ 24 ∷ 108 ∷ 132 ∷ []) [] []) ≡ 1
 unfolding every isName verdict inputTests checkLookup
 bad-name = refl
