@@ -1,0 +1,45 @@
+"""Requests to the driver program: docs/DRIVER.md has the format. It is built by `rt check driver`."""
+import os
+import platform
+import subprocess
+
+ROOT = os.path.dirname(os.path.dirname(os.path.abspath(__file__)))
+PROGRAM = os.path.join(ROOT, "target", "bin", "driver")
+
+BYTES = 0  # a field of bytes; any other kind of field is a number of so many bytes
+
+# each call's number, and the kinds of its fields
+CALLS = {
+    "sha256": (1, [BYTES]),
+    "first_difference": (2, [BYTES, BYTES]),
+    "history_paths": (3, [2, 4]),
+}
+
+
+def be(n, x):
+    return x.to_bytes(n, "big")
+
+
+def request(number, fields):
+    """A request of the call with that number."""
+    body = be(1, number) + b"".join(be(4, len(f)) + f for f in fields)
+    return be(4, len(body)) + body
+
+
+def command():
+    """How `rt` runs a program: with the kit's loader and C library, and its emulator where the machine is no x86-64."""
+    guide = subprocess.run(["rt", "doc"], capture_output=True, text=True, check=True).stdout.strip()
+    kit = os.path.dirname(os.path.dirname(guide))
+    tools = os.path.join(kit, "on", platform.machine(), "toolchain")
+    emulator = os.path.join(tools, "bin", "qemu-x86_64")
+    loader = os.path.join(tools, "lib", "ld-linux-x86-64.so.2")
+    run = [loader, "--library-path", os.path.join(tools, "lib"), PROGRAM]
+    return [emulator] + run if os.access(emulator, os.X_OK) else run
+
+
+def answers(requests):
+    """The lines that the driver writes in answer to requests."""
+    done = subprocess.run(command(), input=b"".join(requests), capture_output=True)
+    if done.returncode != 0:
+        raise RuntimeError(f"the driver ended with status {done.returncode}: {done.stderr.decode(errors='replace')}")
+    return done.stdout.decode().split("\n")[:-1]

@@ -1,0 +1,95 @@
+#!/usr/bin/env python3
+"""Prints crates/driver/stdin, requests readable and not, or crates/driver/stdout, the lines in answer by a second implementation.
+
+    python3 tests/driver_sample.py stdin > crates/driver/stdin
+    python3 tests/driver_sample.py stdout > crates/driver/stdout
+"""
+import hashlib
+import sys
+
+sys.dont_write_bytecode = True
+from driver import be, request
+
+
+def first_difference(a, b):
+    """The first bit at which the labels differ; the end of the shorter one where they differ nowhere."""
+    n = 8 * min(len(a), len(b), 32)
+    x, y = ("".join(f"{byte:08b}" for byte in s)[:n] for s in (a, b))
+    return next((i for i in range(n) if x[i] != y[i]), n)
+
+
+def history_paths(n, epoch):
+    """Document 01's list, part by part."""
+    most = min(10, epoch.bit_length())
+    if n == 0:
+        return most
+    a = n.bit_length() - 1
+    versions, old, last = n, n - 1, 1
+    gap = len(range(n + 1, 2 ** (a + 1)))
+    return versions + old + last + gap + (a + 1) + len(range(a + 1, most))
+
+
+def sha256_case(data):
+    return request(1, [data]), hashlib.sha256(data).hexdigest()
+
+
+def first_difference_case(a, b):
+    return request(2, [a, b]), str(first_difference(a, b))
+
+
+def history_paths_case(n, epoch):
+    return request(3, [be(2, n), be(4, epoch)]), str(history_paths(n, epoch))
+
+
+def bad(bytes_):
+    return bytes_, "bad"
+
+
+zero = bytes(32)
+CASES = [
+    sha256_case(b""),
+    sha256_case(b"abc"),
+    sha256_case(bytes(range(256)) * 17),
+    first_difference_case(zero, zero),
+    first_difference_case(zero, bytes(31) + b"\x01"),
+    first_difference_case(zero, b"\x01" + bytes(31)),
+    first_difference_case(zero, b"\x80" + bytes(31)),
+    first_difference_case(b"", zero),
+    first_difference_case(bytes(7), zero),
+    first_difference_case(bytes(64), bytes(63) + b"\x01"),
+    history_paths_case(0, 0),
+    history_paths_case(0, 2**32 - 1),
+    history_paths_case(1, 0),
+    history_paths_case(5, 5),
+    history_paths_case(1023, 5000),
+    history_paths_case(1024, 5000),
+    history_paths_case(65535, 2**32 - 1),
+    # no call has the number 0, and none 200
+    bad(request(0, [])),
+    bad(request(200, [b"abc"])),
+    # a field too few, a field too many, a field cut short, and a length cut short
+    bad(request(1, [])),
+    bad(request(2, [zero])),
+    bad(request(1, [b"abc", b""])),
+    bad(be(4, 8) + be(1, 1) + be(4, 4) + b"abc"),
+    bad(be(4, 4) + be(1, 1) + bytes(3)),
+    # fields that their buffers can't hold, one with much to skip
+    bad(request(2, [bytes(65), zero])),
+    bad(request(2, [zero, bytes(10_000)])),
+    # numbers of another width
+    bad(request(3, [be(1, 5), be(4, 5)])),
+    bad(request(3, [be(2, 5), be(5, 5)])),
+    # nothing, not even a call's number
+    bad(be(4, 0)),
+    # what comes after an unreadable request is answered
+    sha256_case(b"abc"),
+    # the input ends within a request
+    bad(request(1, [b"abc"])[:-1]),
+]
+
+if sys.argv[1:] == ["stdin"]:
+    sys.stdout.buffer.write(b"".join(given for given, _ in CASES))
+elif sys.argv[1:] == ["stdout"]:
+    print("\n".join(line for _, line in CASES))
+else:
+    sys.exit(__doc__)
