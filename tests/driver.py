@@ -13,6 +13,7 @@ CALLS = {
     "sha256": (1, [BYTES]),
     "first_difference": (2, [BYTES, BYTES]),
     "history_paths": (3, [2, 4]),
+    "check_audit": (6, [BYTES, BYTES, BYTES]),
 }
 
 

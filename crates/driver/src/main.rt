@@ -1,6 +1,7 @@
 // The driver, through which tests put requests to the functions of the other crates: docs/DRIVER.md has the format. It reads requests
 // from standard input until that ends, and writes a line for each. A call is one function here, which reads its fields and answers a
 // whole request, and one arm of `called`.
+use paper::AuditAnswer;
 use wire::Next;
 use wire::Request;
 
@@ -50,12 +51,59 @@ fn call_history_paths(r: Request) -> Request {
     rest
 }
 
+// Zeros for a proof. No audit proof in layout is longer than 3,244,246 bytes.
+fn proof_buffer() -> [u8; 3276800] {
+    [0; 3276800]
+}
+
+// Numbers with a blank between them, and the end of the line.
+fn print_three(a: u64, b: u64, c: u64) {
+    wire::print_number(a);
+    wire::print_text(b" ");
+    wire::print_number(b);
+    wire::print_text(b" ");
+    wire::print_number(c);
+}
+
+fn answer_audit(old_head: &[u8], new_head: &[u8], proof: &[u8]) {
+    match audit::check_audit(old_head, new_head, proof) {
+        AuditAnswer::Accepted {
+            old_epoch,
+            new_epoch,
+            digests,
+        } => {
+            print_three(old_epoch as u64, new_epoch as u64, digests as u64);
+            wire::print_text(b"\n");
+        }
+        AuditAnswer::Refused(n) => wire::print_refused(n),
+    }
+}
+
+// The checkers, which share the buffer of their proof: a head, a name or a second head, and a proof.
+fn call_check(call: u8, r: Request) -> Request {
+    let mut head = short_buffer();
+    let mut name = short_buffer();
+    let mut proof = proof_buffer();
+    let f = wire::read_field(r, &mut head);
+    let g = wire::read_field(f.rest, &mut name);
+    let h = wire::read_field(g.rest, &mut proof);
+    let k = f.length;
+    let m = g.length;
+    let n = h.length;
+    let rest = h.rest;
+    if wire::whole(rest) {
+        answer_audit(&head[..k], &name[..m], &proof[..n]);
+    }
+    rest
+}
+
 // The rest of the request once the call has read its fields: nothing, where it answered.
 fn called(call: u8, r: Request) -> Request {
     match call {
         1 => call_sha256(r),
         2 => call_first_difference(r),
         3 => call_history_paths(r),
+        6 => call_check(call, r),
         _ => wire::spoilt(r),
     }
 }
