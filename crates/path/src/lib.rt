@@ -62,13 +62,15 @@ pub fn take(s: &[u8], at: usize, label: [u8; 32], root: [u8; 32]) -> Taken
             commitment: [0u8; 32],
         };
     }
+    let nodes = path.count as u32;
     let found = root_of(s, label, path);
+    let matches = same(&found, &root);
     let commitment = path.commitment;
     Taken {
         good: true,
         next: path.next,
-        nodes: path.count as u32,
-        matches: same(&found, &root),
+        nodes,
+        matches,
         shows: shows(s, label, path),
         commitment,
     }

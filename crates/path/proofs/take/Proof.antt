@@ -31,11 +31,11 @@ returns c =
     let a = start d .args in
     sym (taken-bad (a .s .now) (a .at) (bytes d) (d .before .parse .result) (d .before .parse .ensures) (a .label) (a .t4) (not-true (d .before .parse .result .good) (c .if1 .taken)))
 
-root-of-requires : tie.Need-root-of-requires
-root-of-requires c κs = stands c
+cast-nodes : tie.Need-cast-nodes
+cast-nodes c = omega (arith, stands (c .before) .most)
 
-cast-t13 : tie.Need-cast-t13
-cast-t13 c = omega (arith, stands (c .before .before .before) .most)
+root-of-requires : tie.Need-root-of-requires
+root-of-requires c κs = stands (c .before)
 
 slice-aggregate-same : tie.Need-slice-aggregate-same
 slice-aggregate-same c = search needs
@@ -55,7 +55,7 @@ returns-2 c =
     let d = e .before in
     let a = start d .args in
     let p = d .before .parse .result in
-    rw (c .shows .ensures, c .before .same .ensures, c .before .before .before .before .before .before .root-of .ensures)
+    rw (c .shows .ensures, c .before .before .same .ensures, c .before .before .before .before .before .root-of .ensures)
     (sym (taken-good (a .s .now) (a .at) (bytes d) p (d .before .parse .ensures) (a .label) (a .t4) (not-false (p .good) (e .if1 .left))))
 
 pub take-spec : {M : Type 1} → statement M
@@ -64,8 +64,8 @@ take-spec =
     (tie.spec
     parse-requires
     returns
+    cast-nodes
     root-of-requires
-    cast-t13
     slice-aggregate-same
     slice-aggregate-same-2
     same-requires
