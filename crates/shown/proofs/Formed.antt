@@ -14,7 +14,9 @@ use Rattle.paper.specs.Shows.{Asked, Item, itemField, Proof, proofField}
 use Rattle.paper.proofs.Layouts.{times-lawful}
 use Rattle.paper.proofs.Proofs.{item-lawful}
 use Rattle.shown.specs.Form.{afterOf, afterAt, frontField, frontAt, headIn, bodyField, startOf, firstPath}
+use Rattle.shown.specs.declared.After.{After}
 use Rattle.shown.specs.declared.After.the-variants.{At, Nowhere}
+use Rattle.shown.specs.declared.Front.{Front}
 use Rattle.shown.specs.declared.Front.the-variants as F
 use Rattle.shown.proofs.Behind.{Stood, stood}
 use Rattle.shown.proofs.Fronts.{front-told, front-bad}
@@ -197,3 +199,19 @@ module _ (kind : ℕ) (keys : ℕ → ℕ) (asked : ℕ → ℕ → List Asked) 
           walks = b .walks;
           room = b .room;
         }
+
+  -- and so stands every proof that is read
+  pub parsed : (p : Proof) (r : Bytes) → parse (proofField kind keys asked) s ≡ got p r → (n : ℕ) × (t : ℕ) × (front : frontAt kind s ≡ F.Read n t) × (start : ℕ) × Formed n t front start
+  parsed p r e = by-front (frontAt kind s) refl
+    where
+      no : {A : Type 0} → parse (proofField kind keys asked) s ≡ bad → A
+      no q = let z : _≡_ {A = ℕ} 0 1 = cc in absurd (omega arith)
+
+      by-body : (n t : ℕ) (front : frontAt kind s ≡ F.Read n t) (x : After) → firstPath (keys n) (length (asked n t)) s ≡ x
+          → (n : ℕ) × (t : ℕ) × (front : frontAt kind s ≡ F.Read n t) × (start : ℕ) × Formed n t front start
+      by-body n t front Nowhere q = no (body-refused n t front q)
+      by-body n t front (At start) q = (n, t, front, start, formed n t front start q)
+
+      by-front : (x : Front) → frontAt kind s ≡ x → (n : ℕ) × (t : ℕ) × (front : frontAt kind s ≡ F.Read n t) × (start : ℕ) × Formed n t front start
+      by-front F.Bad q = no (front-refused q)
+      by-front (F.Read n t) q = by-body n t q (firstPath (keys n) (length (asked n t)) s) refl

@@ -1,13 +1,13 @@
 -- A path is taken by its two tests, and a walk over paths by the tests of each in order. Assumes nothing.
-use mathlib.Core.Path.{_≡_, refl, ap, _∙_, subst}
+use mathlib.Core.Path.{_≡_, refl, sym, ap, _∙_, subst}
 use mathlib.Core.Bool.{Bool, true, false, cond, _&&_}
 use mathlib.Core.List.{List, [], _∷_, _++_, map}
-use Prim.Native.Nat.{ℕ, _+_, _-_, _≤_}
+use Prim.Native.Nat.{ℕ, _+_, _-_, _^_, _≤_, _<_}
 use native.Mathlib.Omega.{arith}
 use lib.Dec.{leb}
 use lib.ListN.{length, drop, length-append, length-map, length-drop}
 use Rattle.paper.specs.Lists.{All}
-use Rattle.paper.specs.Numbers.{FORM, ROOT, RULE}
+use Rattle.paper.specs.Numbers.{FORM, ROOT, RULE, nameMost}
 use Rattle.paper.specs.Bytes.{Bytes, Bytewise, same}
 use Rattle.paper.specs.Bits.{Bits, bitsOf}
 use Rattle.paper.specs.Strings.{nodeString}
@@ -27,7 +27,7 @@ use Rattle.path.specs.Parsed.{commitmentOf}
 use Rattle.path.specs.Taken.{absentBy, shownAt, takenOf, taken}
 use Rattle.path.specs.declared.Taken.{Taken}
 use Rattle.shown.specs.Form.{headIn}
-use Rattle.shown.specs.Walk.{placeOf, askedOf, termsOf, labelOf, onTerms, metBy, leafEpoch, steppedOf, stepped, walked, walks}
+use Rattle.shown.specs.Walk.{placeOf, askedOf, termsOf, labelOf, onTerms, metBy, leafEpoch, steppedOf, stepped, walked, walks, Ready}
 use Rattle.shown.specs.declared.Asked.{Asked}
 use Rattle.shown.specs.declared.Walk.{Walk}
 use Rattle.shown.specs.declared.Walk.the-variants.{On, Refused}
@@ -131,6 +131,11 @@ pub record Passed (s : Bytes) (at digests next d e : ℕ) : Type 0 where
   pub count : d ≡ digests + length (path .steps) + 2
   pub epoch : e ≡ epochOf (path .end)
 
+-- a walk that has counted at most m digests
+abbrev pub Counted : ℕ → Walk → Type 0
+Counted m (Refused n) = Unit {0}
+Counted m (On at d e) = d ≤ m
+
 module _ (s name : Bytes) where
   -- whether a path gives the root of what it is asked for
   abbrev rooted : Asked → P.Path → Bool
@@ -149,6 +154,19 @@ module _ (s name : Bytes) where
       by : (x : Read P.Path) → pathField .read (drop at s) ≡ x → steppedOf s name a digests x ≡ On next d e → Passed s at digests next d e
       by bad q h = let z : _≡_ {A = ℕ} 0 1 = cc in absurd (omega arith)
       by (got x r) q h = on x r q (rooted a x) (meets plain name (termsOf a) (askedOf a) x) h
+
+  -- a path counts at most 258 digests, so a walk that has counted at most m has room for one path more
+  pub walked-counted : Bytewise s → (a : Asked) (m : ℕ) (v u : Walk) → u ≡ walked s name a v → Counted m v → Counted (m + 258) u
+  walked-counted w a m v (Refused n) q h = tt
+  walked-counted w a m (Refused n) (On next d′ e′) q h = let z : _≡_ {A = ℕ} 0 1 = cc in absurd (omega arith)
+  walked-counted w a m (On at d e) (On next d′ e′) q h =
+      let p = step-passed a at d next d′ e′ (sym q) in
+      let f = path-lawful .tells (drop at s) (p .path) (p .behind) (all-drop _ at s w) (p .reads) .0 in
+      omega (arith, p .count, path-fits (p .path) f .most)
+
+  pub counted-ready : (m : ℕ) (v : Walk) → 106 ≤ length s → length name ≤ nameMost → m + 258 < 2 ^ 32 → Counted m v → Ready s name v
+  counted-ready m (Refused n) f l r h = tt
+  counted-ready m (On at d e) f l r h = record { front = f; short = l; room = omega arith }
 
   pub walks-refused : (l : List Asked) (n : ℕ) → walks s name l (Refused n) ≡ Refused n
   unfolding walks

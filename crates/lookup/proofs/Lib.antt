@@ -1,0 +1,3 @@
+-- Laws of the lookup check.
+pub mod Tested
+pub mod Checked
