@@ -38,7 +38,7 @@ fn walk_registered(proof: &[u8], name: &[u8], start: usize, version: u16, epoch:
 }
 
 // "If 0: one path, version 1 absent from *all*." The head is counted before.
-pub fn walk_of(proof: &[u8], name: &[u8], start: usize, version: u16, epoch: u32) -> Walk
+pub(crate) fn walk_of(proof: &[u8], name: &[u8], start: usize, version: u16, epoch: u32) -> Walk
     requires { ⌜ WalkReady (now proof) (now name) version ⌝ }
     ensures { λ r. ⌜ r ≡ walkOf (now (proof .entry)) (now (name .entry)) start version epoch ⌝ }
 {

@@ -53,6 +53,15 @@ pub no-proof : lookupNumber (checkLookup plain (90 ∷ 130 ∷ 232 ∷ 110 ∷ 2
 unfolding every be number same toBits bitsOf fromBits pack starts leafString innerString nothingString headBytes headString labelString commitmentString block fixed within seq led times timesRead timesBytes such view never isName riseFrom rise endOf verdict inputTests checkLookup
 no-proof = refl
 
+-- no heads: so the history and audit checkers, which accept above, refuse something
+pub no-head : historyNumber (checkHistory plain [] [] []) ≡ 1
+unfolding every isName verdict inputTests checkHistory
+no-head = refl
+
+pub no-heads : auditNumber (checkAudit [] [] []) ≡ 1
+unfolding verdict checkAudit
+no-heads = refl
+
 -- the checking program on empty input: "refused 1"
 pub empty-input : programLine [] ≡ 114 ∷ 101 ∷ 102 ∷ 117 ∷ 115 ∷ 101 ∷ 100 ∷ 32 ∷ 49 ∷ 10 ∷ []
 unfolding programLine decimalIn
