@@ -1,6 +1,6 @@
 -- Header, head and number by places: they are the first 108 bytes. Assumes nothing.
 use mathlib.Core.Path.{_≡_, refl, sym, ap, _∙_}
-use mathlib.Core.Bool.{Bool, true, false, cond, _&&_}
+use mathlib.Core.Bool.{Bool, true, false, cond, _&&_, and-false}
 use mathlib.Core.List.{[], _∷_}
 use Prim.Native.Nat.{ℕ, _≤_, _<_}
 use native.Mathlib.Omega.{arith}
@@ -15,7 +15,7 @@ use Rattle.paper.specs.Layout.{Read, got, bad, fixed}
 use Rattle.paper.specs.Fields.{digestField, epochField, headField, opens}
 use Rattle.paper.proofs.Lists.{and-right}
 use Rattle.paper.proofs.Bytes.{same-eq}
-use Rattle.path.proofs.Flat.{Flat, flat-as, flat-yes, flat-short, flat-no, flat-got, block-flat, within-flat, epoch-flat, seq-flat, view-flat, and-false}
+use Rattle.path.proofs.Flat.{Flat, flat-as, flat-yes, flat-short, flat-no, flat-got, block-flat, within-flat, epoch-flat, seq-flat, view-flat}
 use Rattle.shown.specs.Form.{frontField, frontOf, frontAt, headIn}
 use Rattle.shown.specs.declared.Front.the-variants as F
 

@@ -1,7 +1,7 @@
 -- "name | 1 to 64 bytes, each 0x21 to 0x7E", as it is tested. Assumes nothing.
 use mathlib.Core.Path.{_≡_}
 use mathlib.Core.Logic.{_⊎_, inl, inr}
-use mathlib.Core.Bool.{Bool, true, false, _&&_}
+use mathlib.Core.Bool.{Bool, true, false, _&&_, and-false}
 use Prim.Native.Nat.{ℕ, _≤_, _<_}
 use lib.Dec.{leb}
 use lib.ListN.{length}
@@ -10,7 +10,6 @@ use Rattle.paper.specs.Lists.{every}
 use Rattle.paper.specs.Bytes.{Bytes}
 use Rattle.paper.specs.Fields.{isName}
 use Rattle.paper.proofs.Lists.{and-left, and-right}
-use Rattle.path.proofs.Flat.{and-false}
 
 -- a byte of a name
 abbrev pub printed : ℕ → Bool

@@ -1,0 +1,2 @@
+-- The text in which the program's line is written.
+pub mod Written
