@@ -1,0 +1,70 @@
+-- The rows of a history one behind the other are all that is asked. Assumes nothing.
+use mathlib.Core.Path.{_≡_, refl, sym, ap, _∙_}
+use mathlib.Core.List.{List, _∷_, _++_}
+use Prim.Native.Nat.{ℕ, zero, suc, _+_, _-_, _*_, _^_, _≤_, _<_}
+use native.Mathlib.Omega.{arith}
+use native.Mathlib.Numerals.{add-one}
+use lib.ListN.{length}
+use Rattle.paper.specs.Bytes.{Bytes, Bytewise}
+use Rattle.paper.specs.Bits.{log2}
+use Rattle.paper.specs.History.{historyAsked, markersBy}
+use Rattle.plan.proofs.Markers.{by-most}
+use Rattle.plan.proofs.Rows.{asked-length}
+use Rattle.shown.specs.Walk.{walked, walks}
+use Rattle.shown.specs.declared.Place.the-variants.{InOld}
+use Rattle.shown.specs.declared.Asked.{Asked}
+use Rattle.shown.specs.declared.Walk.{Walk}
+use Rattle.shown.proofs.Walked.{walks-append}
+use Rattle.history.specs.Asks.{askVersion, askReplaced, askMarker, lack, row, lackVersions, lackMarkers, asks, used}
+use Rattle.history.proofs.Going.{row-length, used-walked, used-walks}
+
+-- with no versions, the paths are the markers that there can be
+pub markers-counted : (T r : ℕ) → r ≡ length (historyAsked 0 T) → (r ≡ markersBy T) × (r ≤ 10)
+markers-counted T r e = (omega (arith, asked-length 0 T (omega arith)), omega (arith, asked-length 0 T (omega arith), by-most T))
+
+module _ (s name : Bytes) where
+  -- what a row has counted
+  pub row-used : Bytewise s → (f : ℕ → Asked) (a b : ℕ) (v t : Walk) → t ≡ walks s name (row f a b) v → used t ≤ used v + 258 * (b - a)
+  row-used w f a b v t e = rw e (omega (arith, used-walks s name w (row f a b) v, row-length f a b))
+
+  pub one-used : Bytewise s → (x : Asked) (v t : Walk) → t ≡ walked s name x v → used t ≤ used v + 258
+  one-used w x v t e = rw e (used-walked s name w x v)
+
+  rows-split : (A B C D E : List Asked) (x : Asked) (v : Walk)
+      → walks s name (A ++ (B ++ (x ∷ (C ++ (D ++ E))))) v ≡ walks s name E (walks s name D (walks s name C (walked s name x (walks s name B (walks s name A v)))))
+  unfolding walks
+  rows-split A B C D E x v =
+      let u = walks s name A v in
+      let t = walks s name B u in
+      walks-append s name A (B ++ (x ∷ (C ++ (D ++ E)))) v
+      ∙ walks-append s name B (x ∷ (C ++ (D ++ E))) u
+      ∙ walks-append s name C (D ++ E) (walked s name x t)
+      ∙ walks-append s name D E (walks s name C (walked s name x t))
+
+  module _ (first T n most : ℕ) (counted : most ≡ markersBy T) (v₀ : Walk) where
+    pub no-versions : n ≡ 0 → (v : Walk) → v ≡ walks s name (lackMarkers 0 most) v₀ → v ≡ walks s name (asks s first T n) v₀
+    unfolding asks
+    no-versions z v e = e ∙ ap (λ k. walks s name (lackMarkers 0 k) v₀) counted ∙ ap (λ k. walks s name (asks s first T k) v₀) (sym z)
+
+    asks-split : (n : ℕ) → (n ≡ 0 → ⊥) → walks s name (asks s first T n) v₀
+        ≡ walks s name (lackMarkers (suc (log2 n)) (markersBy T))
+        (walks s name (row (askMarker s first) 0 (suc (log2 n)))
+        (walks s name (lackVersions (suc n) (2 ^ suc (log2 n)))
+        (walked s name (lack (InOld n)) (walks s name (row (askReplaced s first) 1 n) (walks s name (row (askVersion s first T) 1 (suc n)) v₀)))))
+    unfolding asks
+    asks-split zero h = absurd (h refl)
+    asks-split (suc m) h =
+        let b = suc (log2 (suc m)) in
+        rows-split (row (askVersion s first T) 1 (suc (suc m))) (row (askReplaced s first) 1 (suc m)) (lackVersions (suc (suc m)) (2 ^ b)) (row (askMarker s first) 0 b) (lackMarkers b (markersBy T))
+        (lack (InOld (suc m))) v₀
+
+    -- row after row, as they were taken
+    pub some-versions : (n ≡ 0 → ⊥) → (marks power : ℕ) → marks ≡ suc (log2 n) → power ≡ 2 ^ suc (log2 n) → (v₁ v₂ v₃ v₄ v₅ v₆ : Walk) (x : Asked)
+        → v₁ ≡ walks s name (row (askVersion s first T) 1 (n + 1)) v₀
+        → v₂ ≡ walks s name (row (askReplaced s first) 1 n) v₁
+        → x ≡ lack (InOld n) → v₃ ≡ walked s name x v₂
+        → v₄ ≡ walks s name (lackVersions (n + 1) power) v₃
+        → v₅ ≡ walks s name (row (askMarker s first) 0 marks) v₄
+        → v₆ ≡ walks s name (lackMarkers marks most) v₅
+        → v₆ ≡ walks s name (asks s first T n) v₀
+    some-versions h marks power m p v₁ v₂ v₃ v₄ v₅ v₆ x e₁ e₂ e e₃ e₄ e₅ e₆ = rw (e₆, counted, e₅, m, e₄, p, e₃, e, e₂, e₁, add-one n) (sym (asks-split n h))
