@@ -13,7 +13,10 @@ CALLS = {
     "sha256": (1, [BYTES]),
     "first_difference": (2, [BYTES, BYTES]),
     "history_paths": (3, [2, 4]),
+    "check_lookup": (4, [BYTES, BYTES, BYTES]),
+    "check_history": (5, [BYTES, BYTES, BYTES]),
     "check_audit": (6, [BYTES, BYTES, BYTES]),
+    "program": (7, [BYTES]),
 }
 
 

@@ -1,5 +1,6 @@
 #!/usr/bin/env python3
-"""Prints crates/driver/stdin, requests readable and not, or crates/driver/stdout, the lines in answer by a second implementation.
+"""Prints crates/driver/stdin, requests readable and not, or crates/driver/stdout, the lines in answer by a second implementation: the
+project's own share of the vectors. Those of the checkers are in tests/cases.py.
 
     python3 tests/driver_sample.py stdin > crates/driver/stdin
     python3 tests/driver_sample.py stdout > crates/driver/stdout
@@ -8,7 +9,8 @@ import hashlib
 import sys
 
 sys.dont_write_bytecode = True
-from driver import be, request
+import cases
+from driver import CALLS, be, request
 
 
 def first_difference(a, b):
@@ -81,11 +83,14 @@ CASES = [
     bad(request(3, [be(2, 5), be(5, 5)])),
     # nothing, not even a call's number
     bad(be(4, 0)),
+    # a head that its buffer can't hold
+    bad(request(4, [bytes(257), b"ada", b""])),
     # what comes after an unreadable request is answered
     sha256_case(b"abc"),
-    # the input ends within a request
-    bad(request(1, [b"abc"])[:-1]),
 ]
+CASES += [(request(CALLS[call][0], fields), line) for call, fields, line in cases.cases()]
+# the input ends within a request
+CASES.append(bad(request(1, [b"abc"])[:-1]))
 
 if sys.argv[1:] == ["stdin"]:
     sys.stdout.buffer.write(b"".join(given for given, _ in CASES))

@@ -2,6 +2,8 @@
 // from standard input until that ends, and writes a line for each. A call is one function here, which reads its fields and answers a
 // whole request, and one arm of `called`.
 use paper::AuditAnswer;
+use paper::HistoryAnswer;
+use paper::LookupAnswer;
 use wire::Next;
 use wire::Request;
 
@@ -51,12 +53,17 @@ fn call_history_paths(r: Request) -> Request {
     rest
 }
 
+// 256 zeros, for a head or a name and more.
+fn argument_buffer() -> [u8; 256] {
+    [0; 256]
+}
+
 // Zeros for a proof. No audit proof in layout is longer than 3,244,246 bytes.
 fn proof_buffer() -> [u8; 3276800] {
     [0; 3276800]
 }
 
-// Numbers with a blank between them, and the end of the line.
+// Three numbers with a blank between them.
 fn print_three(a: u64, b: u64, c: u64) {
     wire::print_number(a);
     wire::print_text(b" ");
@@ -65,13 +72,42 @@ fn print_three(a: u64, b: u64, c: u64) {
     wire::print_number(c);
 }
 
+// 4: version, epoch, digests, and where the accepted key starts and ends. A program can't ask where a slice lies; that the key lies there
+// is proved.
+fn answer_lookup(head: &[u8], name: &[u8], proof: &[u8]) {
+    let key = lookup::accepted_key(head, name, proof);
+    match lookup::check_lookup(head, name, proof) {
+        LookupAnswer::Found { version, epoch, digests } => {
+            print_three(version as u64, epoch as u64, digests as u64);
+            wire::print_text(b" 109 ");
+            wire::print_number(109 + key.len() as u64);
+            wire::print_text(b"\n");
+        }
+        LookupAnswer::NotRegistered { epoch, digests } => {
+            print_three(0, epoch as u64, digests as u64);
+            wire::print_text(b" 0 ");
+            wire::print_number(key.len() as u64);
+            wire::print_text(b"\n");
+        }
+        LookupAnswer::Refused(n) => wire::print_refused(n),
+    }
+}
+
+// 5: n, epoch, digests.
+fn answer_history(head: &[u8], name: &[u8], proof: &[u8]) {
+    match history::check_history(head, name, proof) {
+        HistoryAnswer::Accepted { versions, epoch, digests } => {
+            print_three(versions as u64, epoch as u64, digests as u64);
+            wire::print_text(b"\n");
+        }
+        HistoryAnswer::Refused(n) => wire::print_refused(n),
+    }
+}
+
+// 6: both epochs, digests.
 fn answer_audit(old_head: &[u8], new_head: &[u8], proof: &[u8]) {
     match audit::check_audit(old_head, new_head, proof) {
-        AuditAnswer::Accepted {
-            old_epoch,
-            new_epoch,
-            digests,
-        } => {
+        AuditAnswer::Accepted { old_epoch, new_epoch, digests } => {
             print_three(old_epoch as u64, new_epoch as u64, digests as u64);
             wire::print_text(b"\n");
         }
@@ -79,10 +115,18 @@ fn answer_audit(old_head: &[u8], new_head: &[u8], proof: &[u8]) {
     }
 }
 
+fn answer_check(call: u8, head: &[u8], name: &[u8], proof: &[u8]) {
+    match call {
+        4 => answer_lookup(head, name, proof),
+        5 => answer_history(head, name, proof),
+        _ => answer_audit(head, name, proof),
+    }
+}
+
 // The checkers, which share the buffer of their proof: a head, a name or a second head, and a proof.
 fn call_check(call: u8, r: Request) -> Request {
-    let mut head = short_buffer();
-    let mut name = short_buffer();
+    let mut head = argument_buffer();
+    let mut name = argument_buffer();
     let mut proof = proof_buffer();
     let f = wire::read_field(r, &mut head);
     let g = wire::read_field(f.rest, &mut name);
@@ -92,7 +136,27 @@ fn call_check(call: u8, r: Request) -> Request {
     let n = h.length;
     let rest = h.rest;
     if wire::whole(rest) {
-        answer_audit(&head[..k], &name[..m], &proof[..n]);
+        answer_check(call, &head[..k], &name[..m], &proof[..n]);
+    }
+    rest
+}
+
+// Zeros for the input of the checking program, and for more than it takes.
+fn input_buffer() -> [u8; 131072] {
+    [0; 131072]
+}
+
+// 7: the line of the checking program.
+fn call_program(r: Request) -> Request {
+    let mut input = input_buffer();
+    let f = wire::read_field(r, &mut input);
+    let n = f.length;
+    let rest = f.rest;
+    if wire::whole(rest) {
+        let text = line::program_line(&input[..n]);
+        let bytes = text.bytes;
+        let length = text.length;
+        wire::print_text(&bytes[..length]);
     }
     rest
 }
@@ -103,7 +167,8 @@ fn called(call: u8, r: Request) -> Request {
         1 => call_sha256(r),
         2 => call_first_difference(r),
         3 => call_history_paths(r),
-        6 => call_check(call, r),
+        4 | 5 | 6 => call_check(call, r),
+        7 => call_program(r),
         _ => wire::spoilt(r),
     }
 }
