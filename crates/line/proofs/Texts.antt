@@ -4,7 +4,7 @@ use mathlib.Core.List.{List, [], _∷_, _++_}
 use Prim.Native.Nat.{ℕ, _+_, _≤_}
 use native.Mathlib.Omega.{arith}
 use lib.ListN.{length, length-append}
-use Rattle.paper.specs.Bytes.{Bytes}
+use Rattle.paper.specs.Bytes.{Bytes, zeros}
 use Rattle.paper.specs.Program.{decimal, versionWord, epochWord, digestsWord, refusedWord, lineEnd, accepted, line}
 use Rattle.paper.specs.declared.LookupAnswer.the-variants.{Refused}
 use Rattle.words.proofs.Pasted.{pasted-none, pasted-pasted, pasted-reach}
@@ -12,13 +12,16 @@ use Rattle.line.specs.declared.Text.{Text}
 use Rattle.line.specs.Written.{empty, behind, textOf}
 
 -- what is written of a text lies in it
-abbrev Within : Text → Type 0
+abbrev pub Within : Text → Type 0
 Within t = t .length ≤ length (t .bytes)
 
 pub behind-more : (t : Text) (x y : Bytes) → Within t → behind (behind t x) y ≡ behind t (x ++ y)
 behind-more t x y h =
     let n : t .length + length x + length y ≡ t .length + length (x ++ y) = omega (arith, length-append x y) in
     rw (pasted-pasted (t .bytes) (t .length) x y h, n)
+
+pub text-within : (t : Text) (x : Bytes) → t ≡ textOf x → Within t
+text-within t x e = rw e (pasted-reach (zeros 64) 0 x (omega arith))
 
 -- how long a text is at most
 pub behind-most : (t u : Text) (x : Bytes) (m n : ℕ) → u ≡ behind t x → t .length ≤ m → length x ≤ n → u .length ≤ m + n
