@@ -77,7 +77,11 @@ fn print_three(a: u64, b: u64, c: u64) {
 fn answer_lookup(head: &[u8], name: &[u8], proof: &[u8]) {
     let key = lookup::accepted_key(head, name, proof);
     match lookup::check_lookup(head, name, proof) {
-        LookupAnswer::Found { version, epoch, digests } => {
+        LookupAnswer::Found {
+            version,
+            epoch,
+            digests,
+        } => {
             print_three(version as u64, epoch as u64, digests as u64);
             wire::print_text(b" 109 ");
             wire::print_number(109 + key.len() as u64);
@@ -96,7 +100,11 @@ fn answer_lookup(head: &[u8], name: &[u8], proof: &[u8]) {
 // 5: n, epoch, digests.
 fn answer_history(head: &[u8], name: &[u8], proof: &[u8]) {
     match history::check_history(head, name, proof) {
-        HistoryAnswer::Accepted { versions, epoch, digests } => {
+        HistoryAnswer::Accepted {
+            versions,
+            epoch,
+            digests,
+        } => {
             print_three(versions as u64, epoch as u64, digests as u64);
             wire::print_text(b"\n");
         }
@@ -107,7 +115,11 @@ fn answer_history(head: &[u8], name: &[u8], proof: &[u8]) {
 // 6: both epochs, digests.
 fn answer_audit(old_head: &[u8], new_head: &[u8], proof: &[u8]) {
     match audit::check_audit(old_head, new_head, proof) {
-        AuditAnswer::Accepted { old_epoch, new_epoch, digests } => {
+        AuditAnswer::Accepted {
+            old_epoch,
+            new_epoch,
+            digests,
+        } => {
             print_three(old_epoch as u64, new_epoch as u64, digests as u64);
             wire::print_text(b"\n");
         }

@@ -24,7 +24,7 @@ fn end_epoch(end: End) -> u32
 }
 
 // The leaf of the path at `at`.
-pub fn leaf_at(s: &[u8], at: usize) -> Leaf
+pub(crate) fn leaf_at(s: &[u8], at: usize) -> Leaf
     ensures { λ r. ⌜ r ≡ leafAt (now (s .entry)) at ⌝ }
 {
     let path = parse(s, at);
@@ -36,7 +36,7 @@ pub fn leaf_at(s: &[u8], at: usize) -> Leaf
 }
 
 // The epoch of the leaf of the path that stands behind k others from `first` on.
-pub fn epoch_behind(s: &[u8], first: usize, k: usize) -> u32
+pub(crate) fn epoch_behind(s: &[u8], first: usize, k: usize) -> u32
     ensures { λ r. ⌜ r ≡ epochFrom (now (s .entry)) first (k + 1) ⌝ }
 {
     let mut at = first;

@@ -13,7 +13,7 @@ ghost use Rattle.shown.specs.Walk.{walks};
 ghost use Rattle.history.specs.Asks.{askVersion, askReplaced, askMarker, row, lackVersions, lackMarkers, Ahead, VersionsAhead};
 
 // "Versions 1 to n present in *all*.": each with its key's commitment, later than the one before, and at an epoch up to the head's.
-pub fn versions(s: &[u8], name: &[u8], first: usize, n: u16, epoch: u32, walk: Walk) -> Walk
+pub(crate) fn versions(s: &[u8], name: &[u8], first: usize, n: u16, epoch: u32, walk: Walk) -> Walk
     requires { ⌜ VersionsAhead (now s) (now name) n walk ⌝ }
     ensures { λ r. ⌜ r ≡ walks (now (s .entry)) (now (name .entry)) (row (askVersion (now (s .entry)) first epoch) 1 (n + 1)) walk ⌝ }
 {
@@ -33,7 +33,7 @@ pub fn versions(s: &[u8], name: &[u8], first: usize, n: u16, epoch: u32, walk: W
 }
 
 // "Versions 1 to n-1 present in *old*.": each with the epoch of the version after it.
-pub fn replaced(s: &[u8], name: &[u8], first: usize, n: u16, walk: Walk) -> Walk
+pub(crate) fn replaced(s: &[u8], name: &[u8], first: usize, n: u16, walk: Walk) -> Walk
     requires { ⌜ Ahead (now s) (now name) n walk ⌝ }
     ensures { λ r. ⌜ r ≡ walks (now (s .entry)) (now (name .entry)) (row (askReplaced (now (s .entry)) first) 1 n) walk ⌝ }
 {
@@ -50,7 +50,7 @@ pub fn replaced(s: &[u8], name: &[u8], first: usize, n: u16, walk: Walk) -> Walk
 }
 
 // Versions from `low` up to `high` absent from *all*.
-pub fn absent_versions(s: &[u8], name: &[u8], low: u16, high: u16, walk: Walk) -> Walk
+pub(crate) fn absent_versions(s: &[u8], name: &[u8], low: u16, high: u16, walk: Walk) -> Walk
     requires { ⌜ Ahead (now s) (now name) (high - low) walk ⌝ }
     ensures { λ r. ⌜ r ≡ walks (now (s .entry)) (now (name .entry)) (lackVersions low high) walk ⌝ }
 {
@@ -62,7 +62,7 @@ pub fn absent_versions(s: &[u8], name: &[u8], low: u16, high: u16, walk: Walk) -
 }
 
 // Markers from 0 up to `marks` present, each with the epoch of version 2^j.
-pub fn markers(s: &[u8], name: &[u8], first: usize, marks: u16, walk: Walk) -> Walk
+pub(crate) fn markers(s: &[u8], name: &[u8], first: usize, marks: u16, walk: Walk) -> Walk
     requires { ⌜ Ahead (now s) (now name) marks walk × (marks ≤ 10) ⌝ }
     ensures { λ r. ⌜ r ≡ walks (now (s .entry)) (now (name .entry)) (row (askMarker (now (s .entry)) first) 0 marks) walk ⌝ }
 {
@@ -75,7 +75,7 @@ pub fn markers(s: &[u8], name: &[u8], first: usize, marks: u16, walk: Walk) -> W
 }
 
 // Markers from `low` up to `high` absent.
-pub fn absent_markers(s: &[u8], name: &[u8], low: u16, high: u16, walk: Walk) -> Walk
+pub(crate) fn absent_markers(s: &[u8], name: &[u8], low: u16, high: u16, walk: Walk) -> Walk
     requires { ⌜ Ahead (now s) (now name) (high - low) walk ⌝ }
     ensures { λ r. ⌜ r ≡ walks (now (s .entry)) (now (name .entry)) (lackMarkers low high) walk ⌝ }
 {
