@@ -1,0 +1,42 @@
+#!/usr/bin/env python3
+"""Prints the stack that functions of the driver program take, with all that they call, from the program's own instructions.
+
+A function's frame is what it pushes, what it subtracts from the stack pointer, and its return address. Its stack is its frame and the
+largest stack of a function that it calls. A function that calls itself is counted at the depth that its contract bounds: the recursion over
+an audit's records at 256, that over a number's decimal digits at 10. Run `rt check driver` first; `objdump` must be on the path.
+"""
+import os
+import re
+import subprocess
+import sys
+
+ROOT = os.path.dirname(os.path.dirname(os.path.abspath(__file__)))
+text = subprocess.run(["objdump", "-d", "--no-show-raw-insn", os.path.join(ROOT, "target/bin/driver")], capture_output=True, text=True, check=True).stdout
+
+DEPTHS = {"audit_root::below": 256, "line::decimal": 10}
+
+frames, calls, name = {}, {}, None
+for line in text.split("\n"):
+    start = re.match(r"[0-9a-f]+ <(.*)>:$", line)
+    if start:
+        name = start.group(1)
+        frames[name], calls[name] = 8, set()
+    elif name:
+        if re.search(r"\tpush ", line):
+            frames[name] += 8
+        sub = re.search(r"\tsub +\$0x([0-9a-f]+),%rsp", line)
+        if sub:
+            frames[name] += int(sub.group(1), 16)
+        call = re.search(r"\t(?:call|jmp) +[0-9a-f]+ <([^+>]*)>", line)
+        if call:
+            calls[name].add(call.group(1))
+
+
+def stack(f, seen=()):
+    levels = DEPTHS[f] if f in calls.get(f, ()) else 1
+    inner = [stack(g, seen + (f,)) for g in calls.get(f, ()) if g != f and g not in seen]
+    return frames.get(f, 0) * levels + max(inner, default=0)
+
+
+for f in sys.argv[1:] or sorted(frames):
+    print(f"{f}: frame {frames[f]}, with what it calls {stack(f)}")
