@@ -1,7 +1,6 @@
 -- What the history check answers, test by test in its order. Assumes nothing.
-use mathlib.Core.Path.{_≡_, refl, sym, ap, _∙_}
-use mathlib.Core.Bool.{Bool, true, false, _&&_}
-use mathlib.Core.List.{List, []}
+use mathlib.Core.Path.{_≡_, sym, ap, _∙_}
+use mathlib.Core.Bool.{true, false}
 use Prim.Native.Nat.{ℕ, _+_}
 use lib.ListN.{length}
 use borrow.Author.Tests.{eq-eqb, ne-eqb}
@@ -18,7 +17,7 @@ use Rattle.paper.specs.History.{historyAsked, historyField, historyTerms, histo
 use Rattle.paper.specs.declared.HistoryAnswer.the-variants as H
 use Rattle.shown.specs.Form.{frontAt, headIn, firstPath}
 use Rattle.shown.specs.Walk.{walks}
-use Rattle.shown.specs.declared.After.the-variants.{At, Nowhere}
+use Rattle.shown.specs.declared.After.the-variants.{Nowhere}
 use Rattle.shown.specs.declared.Front.the-variants as F
 use Rattle.shown.specs.declared.Walk.the-variants.{On}
 use Rattle.shown.proofs.Formed.{front-refused, body-refused, Formed}

@@ -1,9 +1,7 @@
 -- Places that move on with a loop, one key or one path a turn. Assumes nothing.
-use mathlib.Core.Path.{_≡_, refl, sym, ap, _∙_}
-use Prim.Native.Nat.{ℕ, zero, suc, _+_, _-_, _≤_, _<_}
-use native.Mathlib.Omega.{arith}
+use mathlib.Core.Path.{_≡_, refl, ap}
+use Prim.Native.Nat.{ℕ, _+_}
 use native.Mathlib.Numerals.{add-one}
-use lib.ListN.{getD}
 use Rattle.paper.specs.Bytes.{Bytes}
 use Rattle.history.specs.declared.leaves.Leaf.{Leaf}
 use Rattle.history.specs.Asks.{onward, itemOn, itemAt, pathOn, leafAt, placeAt, epochFrom}

@@ -1,11 +1,11 @@
 -- Keys and paths by their places: the k-th of a list that was read stands k times on from the first. Assumes nothing.
 use mathlib.Core.Path.{_≡_, refl, sym, ap, _∙_}
-use mathlib.Core.List.{List, [], _∷_}
+use mathlib.Core.List.{List}
 use Prim.Native.Nat.{ℕ, zero, suc, _+_, _-_, _≤_, _<_}
 use native.Mathlib.Omega.{arith}
 use native.Mathlib.Numerals.{add-one}
 use native.Mathlib.Nat.{add-zero, sub-zero}
-use lib.ListN.{length, take, drop, getD, length-take, length-drop}
+use lib.ListN.{length, drop, getD, length-take, length-drop}
 use lib.Seq.{drop-drop, getD-drop}
 use Rattle.paper.specs.Bytes.{Bytes, Bytewise}
 use Rattle.paper.specs.Layout.{Layout, got, times}
@@ -18,7 +18,7 @@ use Rattle.paper.proofs.Layouts.{Lawful}
 use Rattle.paper.proofs.Proofs.{item-lawful}
 use Rattle.paper.proofs.Fits.{item-fits}
 use Rattle.path.specs.Parsed.{placed, pathOf, pathAt}
-use Rattle.shown.specs.Form.{afterOf, afterAt, ItemStands}
+use Rattle.shown.specs.Form.{afterOf}
 use Rattle.shown.specs.declared.After.the-variants.{At}
 use Rattle.shown.proofs.Behind.{First, first-of}
 use Rattle.shown.proofs.Keyed.{item-told, item-after}

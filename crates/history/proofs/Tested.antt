@@ -1,7 +1,7 @@
 -- The walk over a history's paths comes to the verdict over their tests. Assumes nothing.
 use mathlib.Core.Path.{_≡_, refl, sym, ap, ap₂, _∙_}
 use mathlib.Core.Logic.{by-cases}
-use mathlib.Core.Bool.{Bool, true, false, _&&_}
+use mathlib.Core.Bool.{_&&_}
 use mathlib.Core.List.{List, [], _∷_, _++_, map, map-append}
 use Prim.Native.Nat.{ℕ, zero, suc, _+_, _-_, _^_, _≤_, _<_}
 use native.Mathlib.Omega.{arith}
@@ -18,12 +18,10 @@ use Rattle.paper.specs.Bits.{log2}
 use Rattle.paper.specs.Strings.{commitmentString}
 use Rattle.paper.specs.Labelling.{plain}
 use Rattle.paper.specs.Path.{Path, none}
-use Rattle.paper.specs.Layout.{got, times}
-use Rattle.paper.specs.Fields.{pathField}
 use Rattle.paper.specs.Verdict.{verdict}
-use Rattle.paper.specs.Shows.{Item, itemField, Proof, Terms, epochAt, commitmentAt, pathTests, pathStrings, proofStrings, present, missing, inAll, inOld, asMarker}
+use Rattle.paper.specs.Shows.{Item, Proof, Terms, epochAt, commitmentAt, pathTests, pathStrings, proofStrings, present, missing, inAll, inOld, asMarker}
 use Rattle.paper.specs.Shows as S
-use Rattle.paper.specs.History.{historyAsked, historyTerms, markersBy, markersMissing}
+use Rattle.paper.specs.History.{historyAsked, historyTerms, markersBy}
 use Rattle.paper.specs.declared.HistoryAnswer.{HistoryAnswer}
 use Rattle.paper.specs.declared.HistoryAnswer.the-variants as H
 use Rattle.paper.proofs.Lists.{all-append, not-both}
@@ -33,7 +31,7 @@ use Rattle.paper.proofs.Fits.{proof-fits}
 use Rattle.plan.specs.Asked.{markersOf}
 use Rattle.plan.proofs.Rows.{asked-length}
 use Rattle.shown.specs.Form.{frontAt, headIn, itemIn, ItemStands, commitmentIn}
-use Rattle.shown.specs.Walk.{askedOf, placeOf, walks}
+use Rattle.shown.specs.Walk.{askedOf, walks}
 use Rattle.shown.specs.declared.Front.the-variants as F
 use Rattle.shown.specs.declared.Asked.{Asked}
 use Rattle.shown.specs.declared.Place.{Place}
@@ -44,8 +42,8 @@ use Rattle.shown.proofs.Keyed.{item-told}
 use Rattle.shown.proofs.Fronts.{front-told}
 use Rattle.shown.proofs.Formed.{Formed}
 use Rattle.shown.proofs.Walked.{Suits, over, walks-tests}
-use Rattle.history.specs.Asks.{onward, itemOn, itemAt, pathOn, placeAt, epochFrom, askVersion, askBare, askReplaced, askMarker, lack, row, lackVersions, lackMarkers, asks, answerOf, ItemsStand}
-use Rattle.history.proofs.Powers.{Marked, marked}
+use Rattle.history.specs.Asks.{itemOn, itemAt, pathOn, placeAt, epochFrom, askVersion, askReplaced, askMarker, lack, row, lackVersions, asks, answerOf, ItemsStand}
+use Rattle.history.proofs.Powers.{marked}
 use Rattle.history.proofs.Standing.{path-moves, item-moves, path-epoch, nth}
 
 -- an answer is made of a walk

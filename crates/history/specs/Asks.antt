@@ -1,6 +1,6 @@
 -- What a history's paths are asked to show, with epochs and commitments as they stand in the proof's own bytes.
 use mathlib.Core.Bool.{true, false}
-use mathlib.Core.List.{List, [], _∷_, _++_, map}
+use mathlib.Core.List.{List, _∷_, _++_, map}
 use Prim.Native.Nat.{ℕ, zero, suc, _+_, _-_, _*_, _^_, _≤_, _<_}
 use lib.ListN.{length, getD}
 use Rattle.paper.specs.Lists.{upFrom}

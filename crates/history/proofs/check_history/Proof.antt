@@ -10,7 +10,6 @@ use Rattle.paper.specs.Fields.{isName}
 use Rattle.paper.specs.History.{historyAsked}
 use Rattle.path.proofs.Ending.{bytewise}
 use Rattle.shown.specs.Form.{frontAt, firstPath}
-use Rattle.shown.specs.declared.After.{After}
 use Rattle.shown.specs.declared.Front.the-variants as F
 use Rattle.shown.proofs.Named.{name-short}
 use Rattle.shown.proofs.Fronts.{front-told}

@@ -1,12 +1,12 @@
 -- `history::walk_paths`: row after row is taken, and the count has room for all of them.
 use borrow.Author.Needs.{needs}
 use native.Mathlib.Omega.{arith}
-use mathlib.Core.Path.{_≡_, sym, ap, _∙_}
+use mathlib.Core.Path.{_≡_, ap}
 use Prim.Native.Nat.{suc, _+_, _*_, _%_, _^_, _≤_}
 use Rattle.paper.specs.Bytes.{Bytewise}
 use Rattle.paper.specs.Bits.{log2}
 use Rattle.path.proofs.Ending.{bytewise}
-use Rattle.shown.specs.declared.Place.the-variants.{InAll, AsMarker}
+use Rattle.shown.specs.declared.Place.the-variants.{InAll}
 use Rattle.history.specs.Asks.{askVersion, askReplaced, askMarker, lack, used}
 use Rattle.history.proofs.Going.{used-ready}
 use Rattle.history.proofs.Powers.{Marked, marked}

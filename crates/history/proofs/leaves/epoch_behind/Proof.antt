@@ -1,7 +1,7 @@
 -- `history::leaves::epoch_behind`: with each turn the place moves on by a path.
 use borrow.Author.Needs.{needs}
 use native.Mathlib.Omega.{arith}
-use mathlib.Core.Path.{_≡_, sym, ap, _∙_}
+use mathlib.Core.Path.{_≡_, ap, _∙_}
 use Prim.Native.Nat.{_+_, _-_, _≤_}
 use Rattle.history.specs.Asks.{placeAt, epochFrom}
 use Rattle.history.proofs.Cursors.{place-none, leaf-next, leaf-epoch}

@@ -1,10 +1,10 @@
 -- `history::rows::replaced`: what is left of the row decides, and the place is that of the version after the one asked for.
 use borrow.Author.Needs.{needs}
 use native.Mathlib.Omega.{arith}
-use mathlib.Core.Path.{_≡_, sym, ap, _∙_}
-use Prim.Native.Nat.{_+_, _-_, _≤_}
+use mathlib.Core.Path.{_≡_, _∙_}
+use Prim.Native.Nat.{_-_}
 use Rattle.path.proofs.Ending.{bytewise}
-use Rattle.history.specs.Asks.{askReplaced, placeAt, epochFrom}
+use Rattle.history.specs.Asks.{askReplaced, placeAt}
 use Rattle.history.proofs.Going.{Going, going-starts, going-ready, going-on, going-ends}
 use Rattle.history.proofs.Cursors.{place-none, leaf-next, leaf-epoch}
 use Rattle.history.proofs.rows.replaced.Statement.{statement}
