@@ -310,6 +310,10 @@ def cases():
     for head, name, proof in lookups[:2]:
         for stdin in (head + be(1, len(name)) + name + proof, head, head + b"\x09" + name[:2], head[:9], b""):
             yield "program", [stdin], checker.program(stdin)
+    head, name, proof = lookups[2]
+    for size in (65536, 65537):
+        stdin = (head + be(1, len(name)) + name + proof).ljust(size, b"\0")
+        yield "program", [stdin], checker.program(stdin)
 
 
 def longest():
