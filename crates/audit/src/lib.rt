@@ -89,7 +89,8 @@ fn check_list(proof: &[u8], at: usize, n: usize, of_old: bool, roots: usize) -> 
     Checked::Passed(old.count + new.count)
 }
 
-// The list of *old*, at `at`, when all before it has passed and took so many digests.
+// The list of *old*, at `at`, when all before it has passed and took so many digests: at most 65,544, two for the heads
+// and four for each record of *all* and six for its roots and their empty sides.
 fn check_old(proof: &[u8], at: usize, digests: u32) -> AuditAnswer
     requires { ⌜ Laid (now proof) × (at ≡ behindAt (now proof) 206) × (digests ≤ 65544) ⌝ }
     ensures { λ r. ⌜ r ≡ oldAnswer (auditAt (now (proof .entry))) digests ⌝ }

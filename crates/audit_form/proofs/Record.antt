@@ -45,6 +45,7 @@ in-layout-at {s = s} {t = t} {x = x} {next = next} h = ap inLayout (h .reads) �
 -- ---- a record at a place
 
 module _ (s : Bytes) (at : ℕ) where
+  -- the record's length, and the layout's own tests: of a leaf's fields, of a prefix, and of what stands behind each kind
   sizeAt : ℕ
   sizeAt = number (take 2 (drop (at + 1) s))
 
@@ -91,6 +92,7 @@ module _ (s : Bytes) (at : ℕ) where
       let m = length-take wide (drop (at + 3) s) in
       sym (take-all sizeAt (bitsOf (labelAt s at)) (omega (arith, leaf-size e)))
 
+  -- what is read behind a kind, and then the record
   kind-at : (k : ℕ) → ReadAt (recordOf k) s (at + 1) (formedBy k) (recordBy k s at) (at + 99)
   unfolding recordOf recordBy formedBy never
   kind-at zero = other-value _ (view-at _ unchangedFields leaf-at) (λ e. ap (λ m. unchanged m (take wide (drop (at + 35) s)) (number (take 4 (drop (at + 67) s)))) (leaf-key e))

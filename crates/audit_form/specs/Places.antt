@@ -16,7 +16,7 @@ labelAt s at = take wide (drop (at + 3) s)
 unfoldable pub keyAt : Bytes → ℕ → Bits
 keyAt s at = take (number (take 2 (drop (at + 1) s))) (bitsOf (labelAt s at))
 
--- ".. for kind 1 two digests, for kinds 0 and 2 commitment, epoch and 28 zero bytes"
+-- ".. for kind 1 two digests, for kinds 0 and 2 commitment, epoch and 28 zero bytes"; the layout lets no kind above 2 through
 unfoldable pub recordBy : ℕ → Bytes → ℕ → AuditRecord
 recordBy zero s at = unchanged (keyAt s at) (take wide (drop (at + 35) s)) (number (take 4 (drop (at + 67) s)))
 recordBy (suc zero) s at = opened (keyAt s at) (take wide (drop (at + 35) s)) (take wide (drop (at + 67) s))

@@ -8,7 +8,6 @@ use words::same;
 ghost use mathlib.Core.Path.{_≡_};
 ghost use Prim.Native.Nat.{_+_, _≤_};
 ghost use lib.ListN.{length, drop};
-ghost use Rattle.paper.specs.Numbers.{auditMost};
 ghost use Rattle.paper.specs.Layout.{times, parse};
 ghost use Rattle.paper.specs.Fields.{prefixField};
 ghost use Rattle.paper.specs.Audit.{leafFields, auditRecordField, listField, auditField};

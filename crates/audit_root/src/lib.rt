@@ -30,6 +30,7 @@ pub struct Built {
     pub count: u32,
 }
 
+// The tree over no records, before the root makes it "nothing".
 fn none() -> Built
     ensures { λ r. ⌜ r ≡ grown [] ⌝ }
 {
@@ -53,15 +54,13 @@ fn record_digest(s: &[u8], at: usize) -> [u8; 32]
     leaf(&label, &first, read32(s, at + 67))
 }
 
-// "one label gives its leaf", and an opened node stands in place of its labels.
+// "one label gives its leaf", and an opened node stands in place of its labels. A new leaf has no part in the old tree.
 fn one(s: &[u8], at: usize, new: bool) -> Built
     requires { ⌜ Formed (now s) at ⌝ }
     ensures { λ r. ⌜ r ≡ grown (nodesOf new (recordsAt (now (s .entry)) at 1)) ⌝ }
 {
-    if s[at] == 2 {
-        if !new {
-            return none();
-        }
+    if s[at] == 2 && !new {
+        return none();
     }
     Built {
         digest: record_digest(s, at),

@@ -39,10 +39,6 @@ module _ {A : Type 0} (key : A → Bits) where
   Ordered [] = Unit {0}
   Ordered (x ∷ l) = All (λ y. Before (key x) (key y)) l × Ordered l
 
-  pub ordered-left : (l m : List A) → Ordered (l ++ m) → Ordered l
-  ordered-left [] m h = tt
-  ordered-left (x ∷ l) m h = (all-left _ l m (h .0), ordered-left l m (h .1))
-
   pub ordered-right : (l m : List A) → Ordered (l ++ m) → Ordered m
   ordered-right [] m h = h
   ordered-right (x ∷ l) m h = ordered-right l m (h .1)

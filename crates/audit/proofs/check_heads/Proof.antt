@@ -12,14 +12,19 @@ use Rattle.audit.proofs.Parts.{heads-old, heads-new, heads-epoch, heads
 use Rattle.audit.proofs.check_heads.Statement.{statement}
 use Rattle.audit.proofs.check_heads.Tie as tie
 
--- what the comparisons of the heads say
-old-head : (c : tie.After-same) {b : Bool} → c .same .result ≡ b
-    → same (sha256 (headString (headAt (c .before .before .before .before .before .before .args .proof .now) 6))) (c .before .before .before .before .before .before .args .old-head .now) ≡ b
-old-head c e = ap (λ x. same x (c .before .before .before .before .before .before .args .old-head .now)) (sym (c .before .before .head-digest .ensures)) ∙ sym (c .same .ensures) ∙ e
+-- the entry, from where each head is compared
+abbrev from-old : tie.After-same → tie.Start
+from-old c = c .before .before .before .before .before .before
 
-new-head : (c : tie.After-same2) {b : Bool} → c .same2 .result ≡ b
-    → same (sha256 (headString (headAt (c .before .before .before .before .before .before .before .before .before .before .args .proof .now) 106))) (c .before .before .before .before .before .before .before .before .before .before .args .new-head .now) ≡ b
-new-head c e = ap (λ x. same x (c .before .before .before .before .before .before .before .before .before .before .args .new-head .now)) (sym (c .before .before .head-digest2 .ensures)) ∙ sym (c .same2 .ensures) ∙ e
+abbrev from-new : tie.After-same2 → tie.Start
+from-new c = c .before .before .before .before .before .before .before .before .before .before
+
+-- what the comparisons of the heads say
+old-head : (c : tie.After-same) {b : Bool} → c .same .result ≡ b → same (sha256 (headString (headAt (from-old c .args .proof .now) 6))) (from-old c .args .old-head .now) ≡ b
+old-head c e = ap (λ x. same x (from-old c .args .old-head .now)) (sym (c .before .before .head-digest .ensures)) ∙ sym (c .same .ensures) ∙ e
+
+new-head : (c : tie.After-same2) {b : Bool} → c .same2 .result ≡ b → same (sha256 (headString (headAt (from-new c .args .proof .now) 106))) (from-new c .args .new-head .now) ≡ b
+new-head c e = ap (λ x. same x (from-new c .args .new-head .now)) (sym (c .before .before .head-digest2 .ensures)) ∙ sym (c .same2 .ensures) ∙ e
 
 head-digest-requires : tie.Need-head-digest-requires
 head-digest-requires c κs = search needs

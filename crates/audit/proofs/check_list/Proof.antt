@@ -3,6 +3,7 @@ use borrow.Author.Needs.{needs}
 use native.Mathlib.Omega.{arith}
 use mathlib.Core.Path.{_≡_, sym, ap, ap₂, _∙_}
 use mathlib.Core.Bool.{Bool, true, false, _&&_}
+use mathlib.Core.List.{List}
 use Prim.Native.Nat.{_+_}
 use lib.ListN.{take, drop}
 use borrow.Author.Tests.{not-true, not-false}
@@ -10,7 +11,7 @@ use Rattle.paper.specs.Lists.{every}
 use Rattle.paper.specs.Numbers.{wide}
 use Rattle.paper.specs.Bytes.{number, same}
 use Rattle.paper.specs.Tree.{rootDigest}
-use Rattle.paper.specs.Audit.{inOrder, recordRule, olds, news}
+use Rattle.paper.specs.Audit.{AuditRecord, inOrder, recordRule, olds, news}
 use Rattle.paper.proofs.Lists.{and-left}
 use Rattle.audit_form.specs.Places.{recordsAt}
 use Rattle.audit_rules.specs.Tree.{whichOf}
@@ -20,27 +21,39 @@ use Rattle.audit.proofs.Parts.{first-fails, second-fails, third-fails, 
 use Rattle.audit.proofs.check_list.Statement.{statement}
 use Rattle.audit.proofs.check_list.Tie as tie
 
+-- the entry, from where the rules are tested and from where each root is compared, and the records
+abbrev from-rules : tie.After-list-rules → tie.Start
+from-rules c = c .before .before .before .before
+
+abbrev from-old : tie.After-same → tie.Start
+from-old c = c .before .before .before .before .before .before .before .before .before .before .before .before
+
+abbrev from-new : tie.After-same2 → tie.Start
+from-new c = c .before .before .before .before .before .before .before .before .before .before .before .before .before .before .before .before .before .before .before .before
+
+abbrev records : tie.Start → List AuditRecord
+records c = recordsAt (c .args .proof .now) (c .args .at) (c .args .n)
+
 -- what the rules and the comparisons of the roots say
 rules : (c : tie.After-list-rules) {b : Bool} → c .list-rules .result ≡ b
-    → (inOrder (recordsAt (c .before .before .before .before .args .proof .now) (c .before .before .before .before .args .at) (c .before .before .before .before .args .n))
-    && every (recordRule (whichOf (c .before .before .before .before .args .of-old)) (number (take 4 (drop 6 (c .before .before .before .before .args .proof .now)))) (number (take 4 (drop 106 (c .before .before .before .before .args .proof .now)))))
-    (recordsAt (c .before .before .before .before .args .proof .now) (c .before .before .before .before .args .at) (c .before .before .before .before .args .n)))
+    → (inOrder (records (from-rules c))
+    && every (recordRule (whichOf (from-rules c .args .of-old)) (number (take 4 (drop 6 (from-rules c .args .proof .now)))) (number (take 4 (drop 106 (from-rules c .args .proof .now))))) (records (from-rules c)))
     ≡ b
 rules c e =
-    let a = c .before .before .before .before .args in
-    let R = recordsAt (a .proof .now) (a .at) (a .n) in
-    ap₂ (λ x y. inOrder R && every (recordRule (whichOf (a .of-old)) x y) R) (sym (c .before .before .read32 .ensures)) (sym (c .before .read322 .ensures)) ∙ sym (c .list-rules .ensures) ∙ e
+    let R = records (from-rules c) in
+    ap₂ (λ x y. inOrder R && every (recordRule (whichOf (from-rules c .args .of-old)) x y) R) (sym (c .before .before .read32 .ensures)) (sym (c .before .read322 .ensures))
+    ∙ sym (c .list-rules .ensures)
+    ∙ e
 
-in-order : (c : tie.After-list-rules) → c .list-rules .result ≡ true
-    → inOrder (recordsAt (c .before .before .before .before .args .proof .now) (c .before .before .before .before .args .at) (c .before .before .before .before .args .n)) ≡ true
+in-order : (c : tie.After-list-rules) → c .list-rules .result ≡ true → inOrder (records (from-rules c)) ≡ true
 in-order c e = and-left _ _ (rules c e)
 
 old-root : (c : tie.After-same) {b : Bool} → c .same .result ≡ b
-    → same (rootDigest (olds (recordsAt (c .before .before .before .before .before .before .before .before .before .before .before .before .args .proof .now) (c .before .before .before .before .before .before .before .before .before .before .before .before .args .at) (c .before .before .before .before .before .before .before .before .before .before .before .before .args .n)))) (take wide (drop (c .before .before .before .before .before .before .before .before .before .before .before .before .args .roots) (c .before .before .before .before .before .before .before .before .before .before .before .before .args .proof .now))) ≡ b
+    → same (rootDigest (olds (records (from-old c)))) (take wide (drop (from-old c .args .roots) (from-old c .args .proof .now))) ≡ b
 old-root c e = ap₂ same (sym (ap (λ b. b .digest) (c .before .before .before .before .before .before .root .ensures))) (sym (c .before .before .digest-at .ensures)) ∙ sym (c .same .ensures) ∙ e
 
 new-root : (c : tie.After-same2) {b : Bool} → c .same2 .result ≡ b
-    → same (rootDigest (news (recordsAt (c .before .before .before .before .before .before .before .before .before .before .before .before .before .before .before .before .before .before .before .before .args .proof .now) (c .before .before .before .before .before .before .before .before .before .before .before .before .before .before .before .before .before .before .before .before .args .at) (c .before .before .before .before .before .before .before .before .before .before .before .before .before .before .before .before .before .before .before .before .args .n)))) (take wide (drop (c .before .before .before .before .before .before .before .before .before .before .before .before .before .before .before .before .before .before .before .before .args .roots + 100) (c .before .before .before .before .before .before .before .before .before .before .before .before .before .before .before .before .before .before .before .before .args .proof .now))) ≡ b
+    → same (rootDigest (news (records (from-new c)))) (take wide (drop (from-new c .args .roots + 100) (from-new c .args .proof .now))) ≡ b
 new-root c e = ap₂ same (sym (ap (λ b. b .digest) (c .before .before .before .before .before .before .root2 .ensures))) (sym (c .before .before .digest-at2 .ensures)) ∙ sym (c .same2 .ensures) ∙ e
 
 read32-requires : tie.Need-read32-requires

@@ -97,16 +97,17 @@ module _ (t : ℕ) where
   lefts-requires c κs = c .before .before .before .before .before .before .pre .1 .listed .reach
 
   -- the step, where the cut is known
+  abbrev start : below-lts.After-lefts claims (below-at t) below.Post → below-lts.Start claims (below-at t) below.Post
+  start c = c .before .before .before .before .before .before .before
+
   cut : (c : below-lts.After-lefts claims (below-at t) below.Post)
-      → Step (c .before .before .before .before .before .before .before .args .s .now) (c .before .before .before .before .before .before .before .args .at)
-      (c .before .before .before .before .before .before .before .args .n) (c .before .before .before .before .before .before .before .args .from) (c .before .first-difference .result) (c .lefts .result)
+      → Step (start c .args .s .now) (start c .args .at) (start c .args .n) (start c .args .from) (c .before .first-difference .result) (c .lefts .result)
   cut c =
-      let start = c .before .before .before .before .before .before .before in
-      let s = start .args .s .now in
+      let a = start c .args in
       let found = c .before in
+      let k = found .first-difference .result in
       let e = found .first-difference .ensures ∙ ap₂ (λ x y. firstDifference (take 32 x) (take 32 y)) (found .before .before .label-at .ensures) (found .before .label-at2 .ensures) in
-      subst (Step s (start .args .at) (start .args .n) (start .args .from) (found .first-difference .result)) (sym (c .lefts .ensures))
-      (range-step s (start .args .at) (start .args .n) (start .args .from) (start .pre .1) (omega arith) (found .first-difference .result) e)
+      subst (Step (a .s .now) (a .at) (a .n) (a .from) k) (sym (c .lefts .ensures)) (range-step (a .s .now) (a .at) (a .n) (a .from) (start c .pre .1) (omega arith) k e)
 
   add-below : below-lts.Need-add-below claims (below-at t) below.Post
   add-below c = omega (arith, cut c .small)
