@@ -1,9 +1,15 @@
 // The driver, through which tests put requests to the functions of the other crates: docs/DRIVER.md has the format. It reads requests
 // from standard input until that ends, and writes a line for each. A call is one function here, which reads its fields and answers a
 // whole request, and one arm of `called`.
+mod print;
+
 use paper::AuditAnswer;
 use paper::HistoryAnswer;
 use paper::LookupAnswer;
+use print::print_bytes;
+use print::print_number;
+use print::print_refused;
+use print::print_text;
 use wire::Next;
 use wire::Request;
 
@@ -19,8 +25,8 @@ fn call_sha256(r: Request) -> Request {
     let n = f.length;
     let rest = f.rest;
     if wire::whole(rest) {
-        wire::print_bytes(&sha256::sha256(&data[..n]));
-        wire::print_text(b"\n");
+        print_bytes(&sha256::sha256(&data[..n]));
+        print_text(b"\n");
     }
     rest
 }
@@ -35,8 +41,8 @@ fn call_first_difference(r: Request) -> Request {
     let n = g.length;
     let rest = g.rest;
     if wire::whole(rest) {
-        wire::print_number(bits::first_difference(&a[..m], &b[..n]) as u64);
-        wire::print_text(b"\n");
+        print_number(bits::first_difference(&a[..m], &b[..n]) as u64);
+        print_text(b"\n");
     }
     rest
 }
@@ -47,8 +53,8 @@ fn call_history_paths(r: Request) -> Request {
     let epoch = wire::read_number32(n.rest);
     let rest = epoch.rest;
     if wire::whole(rest) {
-        wire::print_number(plan::history_paths(n.value, epoch.value) as u64);
-        wire::print_text(b"\n");
+        print_number(plan::history_paths(n.value, epoch.value) as u64);
+        print_text(b"\n");
     }
     rest
 }
@@ -65,11 +71,11 @@ fn proof_buffer() -> [u8; 3276800] {
 
 // Three numbers with a blank between them.
 fn print_three(a: u64, b: u64, c: u64) {
-    wire::print_number(a);
-    wire::print_text(b" ");
-    wire::print_number(b);
-    wire::print_text(b" ");
-    wire::print_number(c);
+    print_number(a);
+    print_text(b" ");
+    print_number(b);
+    print_text(b" ");
+    print_number(c);
 }
 
 // 4: version, epoch, digests, and where the accepted key starts and ends. A program can't ask where a slice lies; that the key lies there
@@ -83,17 +89,17 @@ fn answer_lookup(head: &[u8], name: &[u8], proof: &[u8]) {
             digests,
         } => {
             print_three(version as u64, epoch as u64, digests as u64);
-            wire::print_text(b" 109 ");
-            wire::print_number(109 + key.len() as u64);
-            wire::print_text(b"\n");
+            print_text(b" 109 ");
+            print_number(109 + key.len() as u64);
+            print_text(b"\n");
         }
         LookupAnswer::NotRegistered { epoch, digests } => {
             print_three(0, epoch as u64, digests as u64);
-            wire::print_text(b" 0 ");
-            wire::print_number(key.len() as u64);
-            wire::print_text(b"\n");
+            print_text(b" 0 ");
+            print_number(key.len() as u64);
+            print_text(b"\n");
         }
-        LookupAnswer::Refused(n) => wire::print_refused(n),
+        LookupAnswer::Refused(n) => print_refused(n),
     }
 }
 
@@ -106,9 +112,9 @@ fn answer_history(head: &[u8], name: &[u8], proof: &[u8]) {
             digests,
         } => {
             print_three(versions as u64, epoch as u64, digests as u64);
-            wire::print_text(b"\n");
+            print_text(b"\n");
         }
-        HistoryAnswer::Refused(n) => wire::print_refused(n),
+        HistoryAnswer::Refused(n) => print_refused(n),
     }
 }
 
@@ -121,9 +127,9 @@ fn answer_audit(old_head: &[u8], new_head: &[u8], proof: &[u8]) {
             digests,
         } => {
             print_three(old_epoch as u64, new_epoch as u64, digests as u64);
-            wire::print_text(b"\n");
+            print_text(b"\n");
         }
-        AuditAnswer::Refused(n) => wire::print_refused(n),
+        AuditAnswer::Refused(n) => print_refused(n),
     }
 }
 
@@ -168,7 +174,7 @@ fn call_program(r: Request) -> Request {
         let text = line::program_line(&input[..n]);
         let bytes = text.bytes;
         let length = text.length;
-        wire::print_text(&bytes[..length]);
+        print_text(&bytes[..length]);
     }
     rest
 }
@@ -192,7 +198,7 @@ fn turn() -> bool {
     };
     let rest = called(call, r);
     if !wire::whole(rest) {
-        wire::print_text(b"bad\n");
+        print_text(b"bad\n");
         wire::skip_rest(rest);
     }
     true

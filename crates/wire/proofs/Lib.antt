@@ -1,3 +1,2 @@
--- Laws of what is read of a request, and of text.
+-- Laws of what is read of a request.
 pub mod Taken
-pub mod Spelt

@@ -1,3 +1,2 @@
 -- What the contracts cite.
 pub mod Took
-pub mod Text

@@ -1,13 +1,7 @@
-// Requests and answers of the driver program, as docs/DRIVER.md describes them. No contract can say which bytes a call of the operating
-// system reads or writes. So a contract here says how many: a field's bytes lie in the buffer that is lent for them, and within the
-// request.
-mod print;
+// Requests to the driver program, as docs/DRIVER.md describes them. No contract can say which bytes a call of the operating system
+// reads. So a contract here says how many: a field's bytes lie in the buffer that is lent for them, and within the request.
 mod read;
 
-pub use print::print_bytes;
-pub use print::print_number;
-pub use print::print_refused;
-pub use print::print_text;
 pub use read::next_request;
 pub use read::read_field;
 pub use read::read_number16;

@@ -151,14 +151,17 @@ fn skip_some(left: usize) -> usize
     }
 }
 
-// Reads past what is left of a request.
-pub fn skip_rest(r: Request) {
+// Reads past what is left of a request, and answers how much of it the input did not have.
+pub fn skip_rest(r: Request) -> usize
+    ensures { λ n. ⌜ n ≤ r .left ⌝ }
+{
     let mut left = r.left;
     while 0 < left {
         let n = skip_some(left);
         if n == 0 {
-            return;
+            return left;
         }
         left -= n;
     }
+    0
 }

@@ -1,10 +1,11 @@
 -- `wire::read::skip_rest` ends: what is left falls, or the input has ended. Assumes nothing.
+use Prim.Native.Nat.{_≤_}
 use borrow.Author.Needs.{needs}
 use Rattle.wire.proofs.read.skip_rest.Statement.{statement}
 use Rattle.wire.proofs.read.skip_rest.Tie as tie
 
 abbrev Inv-loop : tie.InvT-loop
-Inv-loop left₀ left = Unit {0}
+Inv-loop left₀ left = left ≤ left₀
 
 abbrev μ-loop : tie.MeasureT-loop
 μ-loop left₀ left = left

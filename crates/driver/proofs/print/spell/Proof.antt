@@ -1,13 +1,13 @@
--- `wire::print::spell`: after i bytes their digits stand in front. Assumes nothing.
+-- `driver::print::spell`: after i bytes their digits stand in front. Assumes nothing.
 use mathlib.Core.Path.{_≡_}
 use Prim.Native.Nat.{_*_, _≤_, _-_}
 use native.Mathlib.Omega.{arith}
 use borrow.Author.Needs.{needs}
 use lib.ListN.{length, take, length-set}
-use Rattle.wire.specs.Text.{hexText}
-use Rattle.wire.proofs.Spelt.{spelt, all-spelt}
-use Rattle.wire.proofs.print.spell.Statement.{statement}
-use Rattle.wire.proofs.print.spell.Tie as tie
+use Rattle.driver.specs.Text.{hexText}
+use Rattle.driver.proofs.Spelt.{spelt, all-spelt}
+use Rattle.driver.proofs.print.spell.Statement.{statement}
+use Rattle.driver.proofs.print.spell.Tie as tie
 
 abbrev Inv-loop : tie.InvT-loop
 Inv-loop bytes text₀ i₀ i-end text i = (i ≤ length bytes) × (i-end ≡ length bytes) × (length text ≡ length text₀) × (take (i * 2) text ≡ hexText (take i bytes))

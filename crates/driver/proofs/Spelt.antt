@@ -7,7 +7,7 @@ use native.Mathlib.Numerals.{add-one}
 use lib.ListN.{length, take, getD, set}
 use lib.Seq.{take-suc, take-suc-set, lt-length-set, take-length}
 use Rattle.io.specs.Digits.{glyph}
-use Rattle.wire.specs.Text.{hexText}
+use Rattle.driver.specs.Text.{hexText}
 
 hex-snoc : (s : List ℕ) (x : ℕ) → hexText (s ++ (x ∷ [])) ≡ hexText s ++ (glyph (x / 16) ∷ glyph (x % 16) ∷ [])
 unfolding hexText

@@ -1,9 +1,9 @@
--- `wire::print::digit` is `0` to `9`, then `a` to `f`. Assumes nothing.
+-- `driver::print::digit` is `0` to `9`, then `a` to `f`. Assumes nothing.
 use native.Mathlib.Omega.{arith}
 use borrow.Author.Tests.{lt-ltb, le-ltb}
 use borrow.Author.Needs.{needs}
-use Rattle.wire.proofs.print.digit.Statement.{statement}
-use Rattle.wire.proofs.print.digit.Tie as tie
+use Rattle.driver.proofs.print.digit.Statement.{statement}
+use Rattle.driver.proofs.print.digit.Tie as tie
 
 add-result : tie.Need-add-result
 add-result c = search needs

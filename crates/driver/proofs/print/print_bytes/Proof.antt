@@ -1,9 +1,9 @@
--- `wire::print::print_bytes` is safe and ends: the place stays within the bytes, and what is left of them falls. Assumes nothing.
+-- `driver::print::print_bytes` is safe and ends: the place stays within the bytes, and what is left of them falls. Assumes nothing.
 use Prim.Native.Nat.{_≤_, _-_}
 use borrow.Author.Needs.{needs}
 use lib.ListN.{length}
-use Rattle.wire.proofs.print.print_bytes.Statement.{statement}
-use Rattle.wire.proofs.print.print_bytes.Tie as tie
+use Rattle.driver.proofs.print.print_bytes.Statement.{statement}
+use Rattle.driver.proofs.print.print_bytes.Tie as tie
 
 abbrev Inv-loop : tie.InvT-loop
 Inv-loop bytes at₀ at = at ≤ length bytes

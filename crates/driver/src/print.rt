@@ -4,20 +4,20 @@ ghost use mathlib.Core.Path.{_≡_};
 ghost use Prim.Native.Nat.{_+_, _*_, _<_, _≤_};
 ghost use lib.ListN.{length, take};
 ghost use Rattle.io.specs.Digits.{glyph};
-ghost use Rattle.wire.specs.Text.{hexText};
+ghost use Rattle.driver.specs.Text.{hexText};
 
 // Writes a text as it stands: a word, a blank between two parts, or the line's end.
-pub fn print_text(text: &[u8]) {
+pub(crate) fn print_text(text: &[u8]) {
     io::write_all(STDOUT_FILENO, text);
 }
 
 // Writes a number in decimal digits.
-pub fn print_number(n: u64) {
+pub(crate) fn print_number(n: u64) {
     io::print_decimal(STDOUT_FILENO, n);
 }
 
 // Writes the line of a refusal.
-pub fn print_refused(n: u8) {
+pub(crate) fn print_refused(n: u8) {
     print_text(b"refused ");
     print_number(n as u64);
     print_text(b"\n");
@@ -53,7 +53,7 @@ fn print_part(bytes: &[u8], at: usize, n: usize)
 }
 
 // Writes bytes in hexadecimal digits, two for each, with few calls of the system; no bytes are a dash.
-pub fn print_bytes(bytes: &[u8]) {
+pub(crate) fn print_bytes(bytes: &[u8]) {
     if bytes.len() == 0 {
         print_text(b"-");
         return;
