@@ -18,6 +18,7 @@ pub mod Table
 pub mod Publish
 pub mod Write
 pub mod Left
+pub mod Level
 pub mod Answer
 pub mod Program
 pub mod Arrow

@@ -61,3 +61,9 @@ pub enum WriteAnswer {
     Written { length: usize, state: State },
     Refused { number: u8, state: State },
 }
+
+// What a call of the tree level answers: how many bytes it wrote.
+pub enum TreeAnswer {
+    Written(usize),
+    Refused(u8),
+}
