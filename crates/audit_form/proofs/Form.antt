@@ -11,14 +11,14 @@ use lib.ListN.{length, take, drop, length-drop}
 use borrow.Author.Tests.{le-leb, lt-leb, leb-true}
 use Rattle.paper.specs.Numbers.{wide, auditMost, epochMost}
 use Rattle.paper.specs.Bytes.{Bytes, Bytewise, be, number, same}
-use Rattle.paper.specs.Layout.{Read, got, bad, andThen, times, timesRead, whole, parse}
+use Rattle.paper.specs.Layout.{Read, got, bad, andThen, times, timesRead, whole, parse, inLayout}
 use Rattle.paper.specs.Fields.{headField}
 use Rattle.paper.specs.Audit.{AuditRecord, auditRecordField, listField, Audit, auditField}
 use Rattle.paper.proofs.Lists.{not-both, and-left, and-right, all-take, all-drop}
 use Rattle.paper.proofs.Bytes.{number-lt}
 use Rattle.words.proofs.Pasted.{length-part}
 use Rattle.audit_form.specs.Places.{recordAt, recordsAt, headAt, countAt, behindAt, auditAt, Formed, Listed, Laid}
-use Rattle.audit_form.specs.Walk.{inLayout, afterRead}
+use Rattle.audit_form.specs.Walk.{afterRead}
 use Rattle.audit_form.specs.declared.After.the-variants.{At, Nowhere}
 use Rattle.audit_form.proofs.At.{ReadAt, block-at, fixed-at, within-at, seq-at, led-at, view-at, then-cond, over-cond}
 use Rattle.audit_form.proofs.Record.{in-layout-at, formed, record-at, record-short, record-tells}

@@ -14,7 +14,7 @@ use Rattle.paper.specs.Lists.{every}
 use Rattle.paper.specs.Numbers.{wide, epochMost}
 use Rattle.paper.specs.Bytes.{Bytes, Bytewise, be, number, same, zeros}
 use Rattle.paper.specs.Bits.{bitsOf, pack}
-use Rattle.paper.specs.Layout.{got, bad, Layout, never}
+use Rattle.paper.specs.Layout.{got, bad, Layout, never, inLayout}
 use Rattle.paper.specs.Fields.{prefixBody, prefixField}
 use Rattle.paper.specs.Audit.{unchanged, fresh, recordKind, recordOf, leafFields, unchangedFields, openedFields, freshFields, auditRecordField}
 use Rattle.paper.proofs.Lists.{not-both, and-left, and-right, all-take, all-drop}
@@ -23,7 +23,6 @@ use Rattle.words.proofs.Number.{number-one}
 use Rattle.words.proofs.Compare.{not-same}
 use Rattle.words.proofs.Pasted.{length-part}
 use Rattle.audit_form.specs.Places.{labelAt, keyAt, recordBy, recordAt, Formed}
-use Rattle.audit_form.specs.Walk.{inLayout}
 use Rattle.audit_form.proofs.At.{ReadAt, block-at, fixed-at, within-at, seq-at, led-at, view-at, such-at}
 use Rattle.audit_form.proofs.Fields.{number-same, zeros-same, prefix-same}
 

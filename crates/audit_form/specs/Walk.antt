@@ -1,16 +1,10 @@
 -- What a walk over bytes finds out of a layout's reading.
-use mathlib.Core.Bool.{Bool, true, false}
 use Prim.Native.Nat.{_-_}
 use lib.ListN.{length}
 use Rattle.paper.specs.Bytes.{Bytes}
 use Rattle.paper.specs.Layout.{Read, got, bad}
 use Rattle.audit_form.specs.declared.After.{After}
 use Rattle.audit_form.specs.declared.After.the-variants.{At, Nowhere}
-
--- whether a value was read
-abbrev pub inLayout : {A : Type 0} → Read A → Bool
-inLayout (got x r) = true
-inLayout bad = false
 
 -- the place in s behind the value that was read
 abbrev pub afterRead : {A : Type 0} → Bytes → Read A → After

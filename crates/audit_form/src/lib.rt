@@ -8,11 +8,11 @@ use words::same;
 ghost use mathlib.Core.Path.{_≡_};
 ghost use Prim.Native.Nat.{_+_, _≤_};
 ghost use lib.ListN.{length, drop};
-ghost use Rattle.paper.specs.Layout.{times, parse};
+ghost use Rattle.paper.specs.Layout.{times, parse, inLayout};
 ghost use Rattle.paper.specs.Fields.{prefixField};
 ghost use Rattle.paper.specs.Audit.{leafFields, auditRecordField, listField, auditField};
 ghost use Rattle.audit_form.specs.Places.{labelAt};
-ghost use Rattle.audit_form.specs.Walk.{inLayout, afterRead};
+ghost use Rattle.audit_form.specs.Walk.{afterRead};
 
 // "Each proof begins "VKD", 16-bit version 1, kind 1 (1 lookup, 2 history, 3 audit)".
 const OPENS: [u8; 6] = [0x56, 0x4B, 0x44, 0, 1, 3];

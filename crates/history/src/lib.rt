@@ -19,7 +19,7 @@ use shown::Place;
 use shown::Walk;
 use shown::first_path;
 use shown::head_hashes;
-use shown::is_name;
+use names::is_name;
 use shown::missing;
 use shown::read_front;
 use shown::take_path;

@@ -14,7 +14,7 @@ use shown::INPUT;
 use shown::Walk;
 use shown::first_path;
 use shown::head_hashes;
-use shown::is_name;
+use names::is_name;
 use shown::read_front;
 ghost use mathlib.Core.Path.{_≡_};
 ghost use Prim.Native.Nat.{_≤_};

@@ -110,3 +110,8 @@ whole bad = bad
 
 abbrev pub parse : {A : Type 0} → Layout A → Bytes → Read A
 parse a s = whole (a .read s)
+
+-- whether bytes have a layout: whether a value was read
+abbrev pub inLayout : {A : Type 0} → Read A → Bool
+inLayout (got x r) = true
+inLayout bad = false

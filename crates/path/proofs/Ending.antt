@@ -19,7 +19,7 @@ use Rattle.paper.proofs.Lists.{all-drop}
 use Rattle.words.proofs.Number.{number-one}
 use Rattle.path.specs.Parsed.{placed, commitmentOf, noEnd, endedAt}
 use Rattle.path.specs.declared.End.the-variants.{Nothing}
-use Rattle.path.proofs.Flat.{Flat, flat-yes, flat-short, flat-no, within-flat}
+use Rattle.fields.proofs.Flat.{Flat, flat-yes, flat-short, flat-no, within-flat}
 use Rattle.path.proofs.Fields.{none-flat}
 
 -- the elements of a slice of bytes are bytes

@@ -22,7 +22,7 @@ use Rattle.path.specs.Parsed.{placed, pathOf, pathAt}
 use Rattle.path.specs.Taken.{shownBy, takenOf, taken}
 use Rattle.path.specs.declared.Path.{Path}
 use Rattle.path.specs.declared.Taken.{Taken}
-use Rattle.path.proofs.Flat.{flat-got, within-flat}
+use Rattle.fields.proofs.Flat.{flat-got, within-flat}
 use Rattle.path.proofs.Fields.{this-flat, other-flat, off-flat, none-flat, steps-flat}
 use Rattle.path.proofs.Prefix.{cut-same}
 use Rattle.path.proofs.Steps.{steps-length}

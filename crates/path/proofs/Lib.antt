@@ -1,5 +1,4 @@
 -- Laws of the path check.
-pub mod Flat
 pub mod Fields
 pub mod Ending
 pub mod Prefix

@@ -20,7 +20,7 @@ use Rattle.path.specs.Places.{endIn, EndStands}
 use Rattle.path.specs.Taken.{absentBy, shownAt, parting}
 use Rattle.path.specs.declared.End.the-variants.{Other, Off}
 use Rattle.path.specs.declared.Shown.the-variants.{Absent, Neither}
-use Rattle.path.proofs.Flat.{and-false}
+use Rattle.fields.proofs.Flat.{and-false}
 
 -- two tests that pass together are one
 both-ways : (a b : Bool) → (a ≡ true → b ≡ true) → (b ≡ true → a ≡ true) → a ≡ b

@@ -15,7 +15,7 @@ use Rattle.paper.proofs.Bytes.{eq-same, bitsOf-length, bitsOf-pack, pack-bitsOf
 use Rattle.words.proofs.Pasted.{length-part}
 use Rattle.words.proofs.Compare.{not-same}
 use Rattle.path.specs.Places.{prefixGood}
-use Rattle.path.proofs.Flat.{inside, outside}
+use Rattle.fields.proofs.Flat.{inside, outside}
 
 zeros-are : (p : Bits) → every not p ≡ true → p ≡ replicate (length p) false
 unfolding every

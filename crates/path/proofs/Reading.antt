@@ -20,7 +20,7 @@ use Rattle.path.specs.Places.{stepsIn, rising}
 use Rattle.path.specs.Parsed.{countOf, countAt, noPath, pathOf, pathAt, endedOf, endedAt}
 use Rattle.path.specs.declared.Path.{Path}
 use Rattle.path.specs.declared.ends.Ended.{Ended}
-use Rattle.path.proofs.Flat.{flat-yes, flat-short, flat-no, flat-got, within-flat, inside, outside}
+use Rattle.fields.proofs.Flat.{flat-yes, flat-short, flat-no, flat-got, within-flat, inside, outside}
 use Rattle.path.proofs.Fields.{steps-flat}
 use Rattle.path.proofs.Steps.{steps-length}
 

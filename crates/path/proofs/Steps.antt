@@ -14,7 +14,7 @@ use Rattle.paper.specs.Bytes.{Bytes, number}
 use Rattle.paper.proofs.Lists.{and-left}
 use Rattle.paper.specs.Path.{lastLength}
 use Rattle.path.specs.Places.{stepIn, stepsIn, ranged, rising}
-use Rattle.path.proofs.Flat.{and-false}
+use Rattle.fields.proofs.Flat.{and-false}
 
 pub steps-length : (m : ℕ) (t : Bytes) → length (stepsIn m t) ≡ m
 unfolding stepsIn

@@ -15,7 +15,7 @@ use Rattle.paper.specs.Layout.{Read, got, bad, fixed}
 use Rattle.paper.specs.Fields.{digestField, epochField, headField, opens}
 use Rattle.paper.proofs.Lists.{and-right}
 use Rattle.paper.proofs.Bytes.{same-eq}
-use Rattle.path.proofs.Flat.{Flat, flat-as, flat-yes, flat-short, flat-no, flat-got, block-flat, within-flat, epoch-flat, seq-flat, view-flat}
+use Rattle.fields.proofs.Flat.{Flat, flat-as, flat-yes, flat-short, flat-no, flat-got, block-flat, within-flat, epoch-flat, seq-flat, view-flat}
 use Rattle.shown.specs.Form.{frontField, frontOf, frontAt, headIn}
 use Rattle.shown.specs.declared.Front.the-variants as F
 

@@ -14,7 +14,7 @@ use Rattle.paper.specs.Fields.{digestField, keyField}
 use Rattle.paper.specs.Shows.{Item, itemField}
 use Rattle.paper.proofs.Lists.{all-drop}
 use Rattle.words.proofs.Number.{number-one}
-use Rattle.path.proofs.Flat.{flat-yes, flat-short, flat-no, flat-got, block-flat, within-flat, inside, outside}
+use Rattle.fields.proofs.Flat.{flat-yes, flat-short, flat-no, flat-got, block-flat, within-flat, inside, outside}
 use Rattle.shown.specs.Form.{afterOf, afterAt, itemIn, ItemStands}
 use Rattle.shown.specs.declared.After.the-variants.{At, Nowhere}
 

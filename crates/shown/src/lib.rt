@@ -4,7 +4,6 @@
 mod heads;
 mod items;
 mod layout;
-mod names;
 mod walks;
 
 pub use heads::head_hashes;
@@ -12,7 +11,6 @@ pub use items::commitment_at;
 pub use items::item_after;
 pub use layout::first_path;
 pub use layout::read_front;
-pub use names::is_name;
 pub use walks::epoch_of;
 pub use walks::missing;
 pub use walks::present;

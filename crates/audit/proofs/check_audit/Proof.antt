@@ -4,10 +4,9 @@ use native.Mathlib.Omega.{arith}
 use mathlib.Core.Path.{_≡_, sym, ap, _∙_}
 use mathlib.Core.Bool.{true}
 use borrow.Author.Tests.{not-true, not-false}
-use Rattle.paper.specs.Layout.{parse}
+use Rattle.paper.specs.Layout.{parse, inLayout}
 use Rattle.paper.specs.Audit.{auditField, auditRead}
 use Rattle.audit_form.specs.Places.{Laid}
-use Rattle.audit_form.specs.Walk.{inLayout}
 use Rattle.audit_form.proofs.Fields.{bytewise}
 use Rattle.audit_form.proofs.Form.{audit-bad, audit-reads, audit-laid}
 use Rattle.audit.proofs.Parts.{input-old, input-new, input-fits, heads-refused, heads-passed}

@@ -11,7 +11,7 @@ use Rattle.paper.specs.History.{historyAsked}
 use Rattle.path.proofs.Ending.{bytewise}
 use Rattle.shown.specs.Form.{frontAt, firstPath}
 use Rattle.shown.specs.declared.Front.the-variants as F
-use Rattle.shown.proofs.Named.{name-short}
+use Rattle.names.proofs.Named.{name-short}
 use Rattle.shown.proofs.Fronts.{front-told}
 use Rattle.shown.proofs.Formed.{Formed, formed}
 use Rattle.history.specs.Asks.{answerOf}

@@ -4,7 +4,7 @@ use borrow.Author.Tests.{ltb-true, ltb-false}
 use native.Mathlib.Omega.{arith}
 use mathlib.Core.Logic.{inl, inr, ⊎-elim}
 use mathlib.Core.Bool.{and-true, and-false}
-use Rattle.path.proofs.Flat.{inside, outside}
+use Rattle.fields.proofs.Flat.{inside, outside}
 use Rattle.shown.proofs.walks.on_terms.Statement.{statement}
 use Rattle.shown.proofs.walks.on_terms.Tie as tie
 

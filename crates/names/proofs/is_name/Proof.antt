@@ -1,4 +1,4 @@
--- `shown::names::is_name`: the bytes passed were in their range, so the rest decides.
+-- `names::is_name`: the bytes passed were in their range, so the rest decides.
 use borrow.Author.Needs.{needs}
 use borrow.Author.Tests.{ltb-true, ltb-false}
 use native.Mathlib.Omega.{arith}
@@ -9,10 +9,10 @@ use lib.ListN.{length, getD, drop}
 use Rattle.paper.specs.Lists.{every}
 use Rattle.paper.specs.Fields.{isName}
 use Rattle.words.proofs.Compare.{every-none, every-pass, every-fail}
-use Rattle.path.proofs.Flat.{inside, outside}
-use Rattle.shown.proofs.Named.{printed, name-sized, name-unsized}
-use Rattle.shown.proofs.names.is_name.Statement.{statement}
-use Rattle.shown.proofs.names.is_name.Tie as tie
+use Rattle.fields.proofs.Flat.{inside, outside}
+use Rattle.names.proofs.Named.{printed, name-sized, name-unsized}
+use Rattle.names.proofs.is_name.Statement.{statement}
+use Rattle.names.proofs.is_name.Tie as tie
 
 abbrev Inv-loop : tie.InvT-loop
 Inv-loop name i₀ i-end i = (i ≤ length name) × (i-end ≡ length name) × (every printed name ≡ every printed (drop i name))

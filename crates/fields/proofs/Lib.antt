@@ -1,0 +1,2 @@
+-- Laws of layouts of a fixed size.
+pub mod Flat

@@ -1,0 +1,2 @@
+-- Laws of a name's bounds.
+pub mod Named
