@@ -1,19 +1,19 @@
 -- Layouts of a fixed size: what is read is a test of the bytes' number and of the bytes, and the value stands at fixed places. Assumes nothing.
-use mathlib.Core.Path.{_≡_, refl, sym, _∙_, subst}
+use mathlib.Core.Path.{_≡_, refl, sym, ap, _∙_, subst}
 use mathlib.Core.Logic.{_⊎_, inl, inr, by-cases}
 use mathlib.Core.Bool.{Bool, true, false, cond, _&&_}
 use Prim.Native.Nat.{ℕ, _+_, _-_, _^_, _≤_, _<_}
 use native.Mathlib.Omega.{arith}
 use native.Mathlib.Decide.{decLe}
 use lib.Dec.{leb, leb·zero}
-use lib.ListN.{length, take, drop, length-drop}
+use lib.ListN.{length, take, drop, length-take, length-drop}
 use lib.Seq.{drop-drop, length-take-le}
 use borrow.Author.Tests.{le-leb, lt-leb, leb-true}
-use Rattle.paper.specs.Bytes.{Bytes, Bytewise, number}
-use Rattle.paper.specs.Layout.{Read, got, bad, Layout, andThen, block, within, seq, led, such, view}
+use Rattle.paper.specs.Bytes.{Bytes, Bytewise, number, same}
+use Rattle.paper.specs.Layout.{Read, got, bad, Layout, andThen, block, fixed, within, seq, led, such, view}
 use Rattle.paper.specs.Fields.{epochField}
 use Rattle.paper.proofs.Lists.{all-take, all-drop}
-use Rattle.paper.proofs.Bytes.{number-lt}
+use Rattle.paper.proofs.Bytes.{same-eq, number-lt}
 
 -- ---- tests one behind the other
 
@@ -111,6 +111,14 @@ pub within-flat : (k low high : ℕ) → Flat (within k low high .read) k (λ s.
 unfolding within
 within-flat k low high = record { reads = λ s w. refl }
 
+pub fixed-flat : (t : Bytes) → Flat (fixed t .read) (length t) (λ s. same (take (length t) s) t) (λ s. tt)
+unfolding fixed
+fixed-flat t = record { reads = λ s w. by s (same (take (length t) s) t) refl }
+  where
+    by : (s : Bytes) (b : Bool) → same (take (length t) s) t ≡ b → cond b (got (tt {0}) (drop (length t) s)) bad ≡ cond (leb (length t) (length s) && b) (got tt (drop (length t) s)) bad
+    by s true e = rw (le-leb (length t) (length s) (omega (arith, ap length (same-eq _ t e), length-take (length t) s)))
+    by s false e = rw (and-false (leb (length t) (length s)))
+
 pub seq-flat : {A B : Type 0} (a : Layout A) (b : A → Layout B) {n m : ℕ} {ok : Bytes → Bool} {also : A → Bytes → Bool} {value : Bytes → A} {last : A → Bytes → B}
     → Flat (a .read) n ok value → ((x : A) → Flat (b x .read) m (also x) (last x))
     → Flat (seq a b .read) (n + m) (λ s. ok s && also (value s) (drop n s)) (λ s. (value s, last (value s) (drop n s)))
@@ -122,6 +130,22 @@ pub led-flat : {A : Type 0} (k : Layout ℕ) (size : A → ℕ) (a : ℕ → Lay
     → Flat (led k size a .read) (n + m) (λ s. ok s && also (value s) (drop n s)) (λ s. last (value s) (drop n s))
 unfolding led
 led-flat k size a f g = flat-then f g
+
+-- the same where what follows is of that size behind each number that passes
+pub led-flat-where : {A : Type 0} (k : Layout ℕ) (size : A → ℕ) (a : ℕ → Layout A) (P : ℕ → Type 0) {n m : ℕ} {ok : Bytes → Bool} {also : ℕ → Bytes → Bool} {value : Bytes → ℕ} {last : ℕ → Bytes → A}
+    → Flat (k .read) n ok value → ((s : Bytes) → ok s ≡ true → P (value s)) → ((x : ℕ) → P x → Flat (a x .read) m (also x) (last x))
+    → Flat (led k size a .read) (n + m) (λ s. ok s && also (value s) (drop n s)) (λ s. last (value s) (drop n s))
+unfolding led
+led-flat-where k size a P {n = n} {m = m} {ok = ok} {also = also} {value = value} {last = last} f p g = record {
+  reads = λ s w. by s w (ok s) refl;
+}
+  where
+    by : (s : Bytes) → Bytewise s → (b : Bool) → ok s ≡ b
+        → andThen (k .read s) (λ k r. a k .read r) ≡ cond (leb (n + m) (length s) && (ok s && also (value s) (drop n s))) (got (last (value s) (drop n s)) (drop (n + m) s)) bad
+    by s w true e =
+        let r = drop n s in
+        rw (f .reads s w, then-cond, g (value s) (p s e) .reads r (all-drop _ n s w), cond-cond, and-swap, length-drop n s, room n m (length s), drop-drop m n s)
+    by s w false e = rw (f .reads s w, e, and-false (leb n (length s)), and-false (leb (n + m) (length s)))
 
 pub view-flat : {A B : Type 0} (a : Layout A) (to : A → B) (from : B → A) {n : ℕ} {ok : Bytes → Bool} {value : Bytes → A}
     → Flat (a .read) n ok value → Flat (view a to from .read) n ok (λ s. to (value s))

@@ -1,21 +1,20 @@
 -- Header, head and number by places: they are the first 108 bytes. Assumes nothing.
 use mathlib.Core.Path.{_≡_, refl, sym, ap, _∙_}
-use mathlib.Core.Bool.{Bool, true, false, cond, _&&_, and-false}
+use mathlib.Core.Bool.{true, false, _&&_, and-false}
 use mathlib.Core.List.{[], _∷_}
 use Prim.Native.Nat.{ℕ, _≤_, _<_}
 use native.Mathlib.Omega.{arith}
 use lib.Dec.{leb, leb·zero}
-use lib.ListN.{length, take, drop, length-take}
+use lib.ListN.{length, take, drop}
 use lib.Seq.{drop-drop}
 use borrow.Author.Tests.{le-leb, lt-leb, leb-true}
 use Rattle.paper.specs.Numbers.{wide, versionMost}
 use Rattle.paper.specs.Bytes.{Bytes, Bytewise, be, number, same}
 use Rattle.paper.specs.Strings.{Head}
-use Rattle.paper.specs.Layout.{Read, got, bad, fixed}
+use Rattle.paper.specs.Layout.{Read, got, bad}
 use Rattle.paper.specs.Fields.{digestField, epochField, headField, opens}
 use Rattle.paper.proofs.Lists.{and-right}
-use Rattle.paper.proofs.Bytes.{same-eq}
-use Rattle.fields.proofs.Flat.{Flat, flat-as, flat-yes, flat-short, flat-no, flat-got, block-flat, within-flat, epoch-flat, seq-flat, view-flat}
+use Rattle.fields.proofs.Flat.{Flat, flat-as, flat-yes, flat-short, flat-no, flat-got, block-flat, fixed-flat, within-flat, epoch-flat, seq-flat, view-flat}
 use Rattle.shown.specs.Form.{frontField, frontOf, frontAt, headIn}
 use Rattle.shown.specs.declared.Front.the-variants as F
 
@@ -25,14 +24,6 @@ header kind = 0x56 ∷ 0x4B ∷ 0x44 ∷ 0 ∷ 1 ∷ kind ∷ []
 
 abbrev pub numberIn : Bytes → ℕ
 numberIn s = number (take 2 (drop 106 s))
-
-fixed-flat : (t : Bytes) → Flat (fixed t .read) (length t) (λ s. same (take (length t) s) t) (λ s. tt)
-unfolding fixed
-fixed-flat t = record { reads = λ s w. by s (same (take (length t) s) t) refl }
-  where
-    by : (s : Bytes) (b : Bool) → same (take (length t) s) t ≡ b → cond b (got (tt {0}) (drop (length t) s)) bad ≡ cond (leb (length t) (length s) && b) (got tt (drop (length t) s)) bad
-    by s true e = rw (le-leb (length t) (length s) (omega (arith, ap length (same-eq _ t e), length-take (length t) s)))
-    by s false e = rw (and-false (leb (length t) (length s)))
 
 head-flat : Flat (headField .read) 100 (λ s. true) (λ s. record { epoch = number (take 4 s); previous = take 32 (drop 4 s); all = take 32 (drop 36 s); old = take 32 (drop 68 s) })
 head-flat = flat-as refl (λ s. refl) (λ s. rw (drop-drop 32 4 s, drop-drop 32 36 s))

@@ -1,0 +1,25 @@
+-- `record::key_at`: the part has as many bytes as its length says.
+use borrow.Author.Needs.{needs}
+use Rattle.record.proofs.Places.{key-part}
+use Rattle.record.proofs.key_at.Statement.{statement}
+use Rattle.record.proofs.key_at.Tie as tie
+
+returns : tie.Need-returns
+returns c =
+    let start = c .before .before in
+    key-part (start .args .s .now) (start .args .i) (start .pre)
+
+pub key-at-spec : {M : Type 1} → statement M
+key-at-spec =
+    tie.close
+    (tie.spec
+    (λ c. search needs)
+    (λ c. search needs)
+    (λ c. search needs)
+    (λ c. search needs)
+    (λ c. search needs)
+    (λ c. search needs)
+    (λ c. search needs)
+    (λ c. search needs)
+    (λ c. search needs)
+    returns)

@@ -1,0 +1,2 @@
+-- What the contracts of reading records cite.
+pub mod Places

@@ -1,0 +1,54 @@
+// The records of a table by their numbers: the one view through which everything above reads them. "A record has 168 bytes: name
+// length 1, name 64, version 2, epoch 4, key length 1, key 64, opening 32, unused bytes zero." Nothing is copied but numbers and
+// openings.
+use words::digest_at;
+use words::read16;
+use words::read32;
+ghost use mathlib.Core.Path.{_≡_};
+ghost use Rattle.record.specs.Places.{recordAt, Stands};
+
+// The name of record i, as a part of the table.
+pub fn name_at(s: &[u8], i: usize) -> &[u8]
+    requires { ⌜ Stands (now s) i ⌝ }
+    ensures { λ r. ⌜ now r ≡ recordAt (now (s .entry)) i .name ⌝ }
+{
+    let at = i * 168;
+    let start = at + 1;
+    let after = start + (s[at] as usize);
+    &s[start..after]
+}
+
+// The version of record i.
+pub fn version_at(s: &[u8], i: usize) -> u16
+    requires { ⌜ Stands (now s) i ⌝ }
+    ensures { λ r. ⌜ r ≡ recordAt (now (s .entry)) i .version ⌝ }
+{
+    read16(s, i * 168 + 65)
+}
+
+// The epoch of record i.
+pub fn epoch_at(s: &[u8], i: usize) -> u32
+    requires { ⌜ Stands (now s) i ⌝ }
+    ensures { λ r. ⌜ r ≡ recordAt (now (s .entry)) i .epoch ⌝ }
+{
+    read32(s, i * 168 + 67)
+}
+
+// The key of record i, as a part of the table.
+pub fn key_at(s: &[u8], i: usize) -> &[u8]
+    requires { ⌜ Stands (now s) i ⌝ }
+    ensures { λ r. ⌜ now r ≡ recordAt (now (s .entry)) i .key ⌝ }
+{
+    let at = i * 168 + 71;
+    let start = at + 1;
+    let after = start + (s[at] as usize);
+    &s[start..after]
+}
+
+// The opening of record i.
+pub fn opening_at(s: &[u8], i: usize) -> [u8; 32]
+    requires { ⌜ Stands (now s) i ⌝ }
+    ensures { λ r. ⌜ r ≡ recordAt (now (s .entry)) i .opening ⌝ }
+{
+    digest_at(s, i * 168 + 136)
+}
