@@ -3,6 +3,7 @@
 mod leaves;
 mod rows;
 
+use names::is_name;
 use paper::HistoryAnswer;
 use plan::history_paths;
 use rows::absent_markers;
@@ -19,7 +20,6 @@ use shown::Place;
 use shown::Walk;
 use shown::first_path;
 use shown::head_hashes;
-use names::is_name;
 use shown::missing;
 use shown::read_front;
 use shown::take_path;

@@ -4,6 +4,7 @@ mod key;
 mod paths;
 
 pub use key::accepted_key;
+use names::is_name;
 use paper::LookupAnswer;
 use paths::walk_of;
 use shown::After;
@@ -14,7 +15,6 @@ use shown::INPUT;
 use shown::Walk;
 use shown::first_path;
 use shown::head_hashes;
-use names::is_name;
 use shown::read_front;
 ghost use mathlib.Core.Path.{_≡_};
 ghost use Prim.Native.Nat.{_≤_};

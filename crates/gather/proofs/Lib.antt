@@ -1,0 +1,3 @@
+-- Laws of rows of leaves.
+pub mod Row
+pub mod Leaves
