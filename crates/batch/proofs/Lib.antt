@@ -1,0 +1,2 @@
+-- Laws of batches.
+pub mod Places

@@ -1,0 +1,70 @@
+-- The updates of a batch by their numbers. Assumes nothing.
+use mathlib.Core.Path.{_≡_, refl, sym, ap, ap₂, _∙_}
+use mathlib.Core.Bool.{Bool, true, false, not, _&&_, _||_}
+use mathlib.Core.List.{List, [], _∷_, _++_, map}
+use Prim.Native.Nat.{ℕ, zero, suc, _+_, _-_, _*_, _≤_, _<_}
+use native.Mathlib.Nat.{zero-add}
+use native.Mathlib.Numerals.{add-one}
+use native.Mathlib.Omega.{arith}
+use lib.ListN.{length, take, drop, getD, length-map, drop-of-length-le}
+use lib.Seq.{take-take, getD-drop, drop-drop, drop-cons}
+use Rattle.paper.specs.Lists.{upFrom, some}
+use Rattle.paper.specs.Numbers.{updateSize}
+use Rattle.paper.specs.Bytes.{Bytes, same}
+use Rattle.paper.specs.Labelling.{Labelling, plain, sameName}
+use Rattle.paper.specs.Table.{Update}
+use Rattle.paper.specs.Publish.{once}
+use Rattle.paper.proofs.Lists.{upFrom-length, getD-upFrom}
+use Rattle.words.proofs.Pasted.{part-is}
+use Rattle.batch.specs.Places.{updateIn, updateAt, updatesIn, bearsFrom, Lies}
+
+-- the part that is a name
+pub name-part : (s : Bytes) (i : ℕ) → Lies s i → take (i * 162 + 1 + getD s (i * 162) 0 - (i * 162 + 1)) (drop (i * 162 + 1) s) ≡ updateAt s i .name
+unfolding updateAt updateIn
+name-part s i h =
+    let n = getD s (i * 162) 0 in
+    let e : i * 162 + 0 ≡ i * 162 = omega arith in
+    part-is s (i * 162 + 1) n ∙ sym (rw (getD-drop (i * 162) s 0 0, e) (take-take n 64 (drop 1 (drop (i * 162) s)) (h .short) ∙ ap (take n) (drop-drop 1 (i * 162) s)))
+
+pub updates-length : (n : ℕ) (s : Bytes) → length (updatesIn n s) ≡ n
+unfolding updatesIn
+updates-length n s = length-map (upFrom 0 n) (updateAt s) ∙ upFrom-length 0 n
+
+pub updates-getD : (n : ℕ) (s : Bytes) (i : ℕ) (d : Update) → i < n → getD (updatesIn n s) i d ≡ updateAt s i
+unfolding updatesIn
+updates-getD n s i d h = getD-upFrom (updateAt s) d 0 n i h ∙ ap (updateAt s) (zero-add i)
+
+-- what is left from update i on
+pub updates-from : (n : ℕ) (s : Bytes) (i : ℕ) → i < n → drop i (updatesIn n s) ≡ updateAt s i ∷ drop (suc i) (updatesIn n s)
+updates-from n s i h =
+    drop-cons (updatesIn n s) i (updateAt s i) (omega (arith, updates-length n s)) ∙ ap (λ u. u ∷ drop (suc i) (updatesIn n s)) (updates-getD n s i (updateAt s i) h)
+
+pub updates-end : (n : ℕ) (s : Bytes) (i : ℕ) → n ≤ i → drop i (updatesIn n s) ≡ []
+updates-end n s i h = drop-of-length-le (updatesIn n s) {i = i} (omega (arith, updates-length n s))
+
+-- ---- a name twice
+
+module _ (n : ℕ) (s : Bytes) (i : ℕ) where
+  pub bears-none : (j : ℕ) → n ≤ j → bearsFrom s n i j ≡ false
+  unfolding bearsFrom some
+  bears-none j h = rw (updates-end n s j h) refl
+
+  pub bears-pass : (j : ℕ) → j < n → same (updateAt s j .name) (updateAt s i .name) ≡ false → bearsFrom s n i j ≡ bearsFrom s n i (j + 1)
+  unfolding bearsFrom some sameName
+  bears-pass j h e = rw (updates-from n s j h, e, add-one j) refl
+
+  pub bears-hit : (j : ℕ) → j < n → same (updateAt s j .name) (updateAt s i .name) ≡ true → bearsFrom s n i j ≡ true
+  unfolding bearsFrom some sameName
+  bears-hit j h e = rw (updates-from n s j h, e) refl
+
+  pub once-end : n ≤ i → once plain (drop i (updatesIn n s)) ≡ true
+  unfolding once
+  once-end h = rw (updates-end n s i h) refl
+
+  pub once-pass : i < n → bearsFrom s n i (suc i) ≡ false → once plain (drop i (updatesIn n s)) ≡ once plain (drop (i + 1) (updatesIn n s))
+  unfolding once bearsFrom
+  once-pass h e = rw (updates-from n s i h, e, add-one i) refl
+
+  pub once-hit : i < n → bearsFrom s n i (suc i) ≡ true → once plain (drop i (updatesIn n s)) ≡ false
+  unfolding once bearsFrom
+  once-hit h e = rw (updates-from n s i h, e) refl

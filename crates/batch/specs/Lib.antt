@@ -1,0 +1,2 @@
+-- What the contracts of reading a batch cite.
+pub mod Places
