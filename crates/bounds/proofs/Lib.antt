@@ -1,0 +1,2 @@
+-- Laws of bounds.
+pub mod Multiple

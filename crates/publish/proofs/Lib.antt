@@ -1,0 +1,2 @@
+-- Laws of publishing.
+pub mod Tests

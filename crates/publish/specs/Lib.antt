@@ -1,0 +1,2 @@
+-- What the contracts of publishing cite.
+pub mod Weighed

@@ -1,0 +1,59 @@
+-- What is found out about a batch before anything is written.
+use mathlib.Core.Path.{_≡_}
+use mathlib.Core.Bool.{Bool, true, false}
+use mathlib.Core.List.{List, [], _∷_, _++_, map}
+use Prim.Native.Nat.{ℕ, suc, _+_, _*_, _/_, _≤_}
+use lib.Dec.{leb}
+use lib.ListN.{length, take, drop}
+use Rattle.paper.specs.Lists.{every}
+use Rattle.paper.specs.Numbers.{wide, versionMost, recordSize, updateSize}
+use Rattle.paper.specs.Bytes.{Bytes, be, pasted}
+use Rattle.paper.specs.Labelling.{plain}
+use Rattle.paper.specs.Layout.{timesBytes}
+use Rattle.paper.specs.Table.{Record, recordField, distinct}
+use Rattle.paper.specs.Tree.{rootDigest}
+use Rattle.paper.specs.Publish.{Published, newRecord, unpublished, publish}
+use Rattle.paper.specs.declared.State.{State}
+use Rattle.paper.specs.declared.PublishAnswer.the-variants as P
+use Rattle.record.specs.Places.{recordsIn}
+use Rattle.batch.specs.Places.{updatesIn}
+use Rattle.gather.specs.Gathered.{leavesBy}
+use Rattle.publish.specs.declared.Planted.{Planted}
+use Rattle.publish.specs.declared.Weighed.{Weighed}
+
+-- "An update has 162 bytes: a record without version and epoch.": the record's bytes, from the update's
+unfoldable pub recordOver : Bytes → ℕ → ℕ → Bytes
+recordOver u version epoch = take 65 u ++ (be 2 version ++ (be 4 epoch ++ take 97 (drop 65 u)))
+
+-- the records that n updates become at an epoch, behind the counted ones
+abbrev pub newRecords : Bytes → ℕ → ℕ → Bytes → ℕ → List Record
+newRecords records count epoch batch n = map (newRecord plain (recordsIn count records) epoch) (updatesIn n batch)
+
+-- whether no name is at 1,023 already, and then the bytes of the new records
+pub record Prepared (records : Bytes) (count epoch : ℕ) (batch : Bytes) (n : ℕ) (fresh : Bytes) (r : Bool) : Type 0 where
+  pub is : r ≡ every (λ q. leb (q .version) versionMost) (newRecords records count epoch batch n)
+  pub bytes : r ≡ true → take (n * recordSize) fresh ≡ timesBytes (recordField .bytes) (newRecords records count epoch batch n)
+
+-- whether no two leaves of a tree share a label, and then its root
+pub record Plants (old : Bool) (epoch : ℕ) (rs : List Record) (r : Planted) : Type 0 where
+  pub is : r .clear ≡ distinct (leavesBy old epoch rs)
+  pub root : r .clear ≡ true → r .root ≡ rootDigest (leavesBy old epoch rs)
+
+-- what publishing leaves, from the new records' bytes and the new head
+abbrev pub leaving : Bytes → Bytes → State → ℕ → Bytes → Bytes → Published
+leaving records heads state n fresh head = record {
+  answer = P.Published (record { count = state .count + n; epoch = suc (state .epoch) });
+  records = pasted records (state .count * recordSize) (take (n * recordSize) fresh);
+  heads = pasted heads (suc (state .epoch) * wide) head;
+}
+
+-- nothing stands in the way: there is room, and publishing leaves just this
+pub record Clear (records heads : Bytes) (state : State) (batch fresh head : Bytes) : Type 0 where
+  pub leaves : publish plain records heads state batch ≡ leaving records heads state (length batch / updateSize) fresh head
+  pub room : (state .count + length batch / updateSize) * recordSize ≤ length records
+  pub slot : (state .epoch + 2) * wide ≤ length heads
+
+-- number 0 says that nothing does; another is the refusal's
+pub record Weighs (records heads : Bytes) (state : State) (batch fresh : Bytes) (r : Weighed) : Type 0 where
+  pub refused : ¬ (r .number ≡ 0) → publish plain records heads state batch ≡ unpublished plain records heads state (r .number)
+  pub clear : r .number ≡ 0 → Clear records heads state batch fresh (r .head)
