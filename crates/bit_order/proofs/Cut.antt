@@ -52,6 +52,12 @@ pub uncut-lcp : (x y : Bits) (m n : ℕ) → Before (take m x) (take n y) → lc
 unfolding uncut
 uncut-lcp x y m n b = sym (before-lcp (take m x) (take n y) b) ∙ before-lcp x y (uncut x y m n b)
 
+-- tests that pass together are one
+pub both-ways : (a b : Bool) → (a ≡ true → b ≡ true) → (b ≡ true → a ≡ true) → a ≡ b
+both-ways true b f g = sym (f refl)
+both-ways false true f g = g refl
+both-ways false false f g = refl
+
 pub before-cut : (x y : Bits) (m n : ℕ) → length x ≡ length y
     → (ltb (length (lcp x y)) m && (ltb (length (lcp x y)) n && getD y (length (lcp x y)) false)) ≡ before? (take m x) (take n y)
 unfolding uncut
@@ -59,11 +65,6 @@ before-cut x y m n e = both-ways _ _ to from
   where
     k : ℕ
     k = length (lcp x y)
-
-    both-ways : (a b : Bool) → (a ≡ true → b ≡ true) → (b ≡ true → a ≡ true) → a ≡ b
-    both-ways true b f g = sym (f refl)
-    both-ways false true f g = g refl
-    both-ways false false f g = refl
 
     to : (ltb k m && (ltb k n && getD y k false)) ≡ true → before? (take m x) (take n y) ≡ true
     to h =

@@ -1,0 +1,7 @@
+-- Laws of sorting leaves.
+pub mod Leaves
+pub mod Counts
+pub mod Parting
+pub mod Order
+pub mod Step
+pub mod Distinct

@@ -1,0 +1,3 @@
+-- What arranging leaves tells, and what its steps leave.
+pub mod Arranged
+pub mod Sort
