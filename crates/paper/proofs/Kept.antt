@@ -24,7 +24,7 @@ use Rattle.paper.proofs.Pasted.{pasted-length, part-at, pasted-bytes}
 
 -- ---- the sizes of records
 
-filled-length : (s : Bytes) → filledField .Fits s → length (filledField .bytes s) ≡ 65
+pub filled-length : (s : Bytes) → filledField .Fits s → length (filledField .bytes s) ≡ 65
 unfolding led within view seq block fixed
 filled-length s f =
     omega (arith, length-append (be 1 (length s)) (s ++ zeros (64 - length s)), length-append s (zeros (64 - length s)), be-length 1 (length s), length-replicate {A = ℕ} (64 - length s) 0)

@@ -1,2 +1,4 @@
 -- Laws of publishing.
 pub mod Tests
+pub mod Made
+pub mod Started
