@@ -1,0 +1,4 @@
+-- Laws of stored trees.
+pub mod Leaves
+pub mod Rising
+pub mod Step
