@@ -2,3 +2,5 @@
 pub mod Leaves
 pub mod Rising
 pub mod Step
+pub mod Halves
+pub mod Slots

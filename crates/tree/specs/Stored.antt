@@ -55,13 +55,18 @@ pub record Side (S : List Node) (d slots : Bytes) : Type 0 where
   pub size : length slots ≡ length S * 64
   pub inside : take ((length S - 1) * 64) slots ≡ flat (build 256 S)
 
--- the root's two sides over n leaves are stored
+-- which was laid over slots, of which the spare one is as it was
+pub record SideLaid (S : List Node) (d old slots : Bytes) : Type 0 where
+  pub stored : Side S d slots
+  pub whole : slots ≡ pasted old 0 (flat (build 256 S))
+
+-- the root's two sides over n leaves
 pub record Stored (n : ℕ) (s slots : Bytes) (r : Sides) : Type 0 where
   pub cut : Cut 0 (leavesIn n s) (r .split)
   pub left : Side (take (r .split) (leavesIn n s)) (r .left) (take (r .split * 64) slots)
   pub right : Side (drop (r .split) (leavesIn n s)) (r .right) (drop (r .split * 64) slots)
 
--- and were laid over slots, of which the spare ones are as they were
+-- which were laid over slots, of which the spare ones are as they were
 pub record Laid (n : ℕ) (s old slots : Bytes) (r : Sides) : Type 0 where
   pub stored : Stored n s slots r
   pub whole : slots

@@ -20,7 +20,7 @@ ghost use Rattle.paper.specs.Bytes.{pasted};
 ghost use Rattle.paper.specs.Strings as S;
 ghost use Rattle.paper.specs.Tree as T;
 ghost use Rattle.paper.specs.Level.{entryLeaf, leavesIn};
-ghost use Rattle.tree.specs.Stored.{flat, Sorted, Range, Cut, Forked, Below, Laid};
+ghost use Rattle.tree.specs.Stored.{Sorted, Range, Cut, Forked, Below, SideLaid, Laid};
 
 // The root's two sides over n leaves: the first `split` leaves are on the left, the others on the right, and each side has a digest.
 pub struct Sides {
@@ -127,7 +127,7 @@ fn below(s: &[u8], n: usize, from: usize, slots: &mut [u8]) -> [u8; 32]
 // A side of the root: "It alone may have "nothing" as a child."
 fn side(s: &[u8], n: usize, slots: &mut [u8]) -> [u8; 32]
     requires { ⌜ Sorted n (now s) × Range 1 (leavesIn n (now s)) × (length (now slots) ≡ n * 64) ⌝ }
-    ensures { λ r. ⌜ (r ≡ T.digest (T.top (T.build 256 (leavesIn n (now (s .entry)))))) × (now (slots .exit) ≡ pasted (now (slots .entry)) 0 (flat (T.build 256 (leavesIn n (now (s .entry)))))) ⌝ }
+    ensures { λ r. ⌜ SideLaid (leavesIn n (now (s .entry))) r (now (slots .entry)) (now (slots .exit)) ⌝ }
 {
     if n == 0 {
         return nothing();

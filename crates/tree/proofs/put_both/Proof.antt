@@ -1,29 +1,34 @@
+-- `tree::put_both`: the second string lies right behind the first.
 use borrow.Author.Needs.{needs}
+use native.Mathlib.Omega.{arith}
+use mathlib.Core.Path.{_≡_, ap₂, _∙_}
+use Prim.Native.Nat.{_+_}
+use lib.ListN.{length}
+use Rattle.paper.specs.Bytes.{pasted}
+use Rattle.words.proofs.Pasted.{pasted-pasted}
 use Rattle.tree.proofs.put_both.Statement.{statement}
 use Rattle.tree.proofs.put_both.Tie as tie
-use Rattle.tree.proofs.put_both.Reads as reads
-use Rattle.tree.proofs.put_both.Lts as lts
-use Rattle.words.proofs.put.Reads as put-reads
 
--- src/lib.rt:102:5
 put-requires : tie.Need-put-requires
 put-requires c κs = search needs
 
--- src/lib.rt:103:16
 add-put : tie.Need-add-put
 add-put c = search needs
 
--- src/lib.rt:103:5
 put-requires-2 : tie.Need-put-requires-2
 put-requires-2 c κs = search needs
 
--- src/lib.rt:98:1
 same-length : tie.Need-same-length
 same-length c = search needs
 
--- src/lib.rt:98:1
 returns : tie.Need-returns
-returns c = ?
+returns c =
+    let second = c .before .before in
+    let first = second .before .before .before .before .before in
+    let start = first .before .before .before .before in
+    let a = start .args in
+    let e : a .at + 32 ≡ a .at + length (a .left .now) = omega arith in
+    second .put2 .ensures ∙ ap₂ (λ x i. pasted x i (a .right .now)) (first .put .ensures) e ∙ pasted-pasted (a .slots .now) (a .at) (a .left .now) (a .right .now) (omega (arith, start .pre))
 
 pub put-both-spec : {M : Type 1} → statement M
 put-both-spec = tie.close (tie.spec put-requires add-put put-requires-2 same-length returns)
