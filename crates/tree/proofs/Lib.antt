@@ -1,0 +1,6 @@
+-- Laws of stored trees.
+pub mod Leaves
+pub mod Rising
+pub mod Step
+pub mod Halves
+pub mod Slots

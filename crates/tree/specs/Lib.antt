@@ -1,0 +1,2 @@
+-- What the contracts of the stored tree cite.
+pub mod Stored
