@@ -1,7 +1,8 @@
-// The bounds of what a server is lent: how many bytes a table and a batch may have.
+// The bounds of what a server is lent: how many bytes a table, a batch and a row of leaves may have.
 ghost use mathlib.Core.Path.{_≡_};
 ghost use Rattle.paper.specs.Table.{recordsWithin, headsWithin};
 ghost use Rattle.paper.specs.Publish.{batchWithin};
+ghost use Rattle.paper.specs.Level.{entriesWithin};
 
 // "record table | a multiple of 168 bytes, at most 4,096 records"
 pub fn records_within(records: &[u8]) -> bool
@@ -34,4 +35,14 @@ pub fn batch_within(batch: &[u8]) -> bool
         return false;
     }
     batch.len() / 162 <= 256
+}
+
+// "label 32, commitment 32, epoch 4" for each leaf. The bound is ours: as many as 4,096 records can give a tree.
+pub fn entries_within(entries: &[u8]) -> bool
+    ensures { λ r. ⌜ r ≡ entriesWithin (now (entries .entry)) ⌝ }
+{
+    if entries.len() % 68 != 0 {
+        return false;
+    }
+    entries.len() / 68 <= 8192
 }

@@ -1,6 +1,5 @@
 // The records that a batch becomes, laid out before anything is written to the table.
 
-
 use words::put;
 use words::write16;
 use words::write32;

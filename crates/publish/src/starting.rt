@@ -28,8 +28,5 @@ pub fn start(heads: &mut [u8]) -> StartAnswer
     }
     let root = empty_root();
     put(heads, 0, &head(0, &[0u8; 32], &root, &root));
-    StartAnswer::Started(State {
-        count: 0,
-        epoch: 0,
-    })
+    StartAnswer::Started(State { count: 0, epoch: 0 })
 }

@@ -1,0 +1,3 @@
+-- Laws of the tree level.
+pub mod Tests
+pub mod Row

@@ -1,0 +1,2 @@
+-- What the contracts of the tree level cite.
+pub mod Rooted
