@@ -2,19 +2,19 @@
 use mathlib.Core.Path.{_≡_, refl, sym, ap, ap₂, _∙_}
 use mathlib.Core.Bool.{Bool, _&&_, and-true}
 use mathlib.Core.List.{List, [], _∷_, _++_, append-assoc, append-nil}
-use Prim.Native.Nat.{ℕ, suc, _+_, _-_, _*_, _≤_}
+use Prim.Native.Nat.{ℕ, suc, _+_, _-_, _≤_}
 use native.Mathlib.Omega.{arith}
 use lib.Dec.{leb}
-use lib.ListN.{length, take, drop, getD, length-append, length-replicate}
-use lib.Seq.{getD-drop, drop-drop, take-take, length-take-le}
+use lib.ListN.{length, take, drop, getD, length-replicate}
+use lib.Seq.{getD-drop, drop-drop, take-take}
 use borrow.Author.Tests.{leb-true}
 use Rattle.paper.specs.Lists.{All}
 use Rattle.paper.specs.Numbers.{wide, versionMost, recordSize}
-use Rattle.paper.specs.Bytes.{Bytes, Bytewise, number, same, zeros}
+use Rattle.paper.specs.Bytes.{Bytes, number, same, zeros}
 use Rattle.paper.specs.Layout.{within, timesBytes}
-use Rattle.paper.specs.Fields.{isName, digestField, epochField}
+use Rattle.paper.specs.Fields.{isName, epochField}
 use Rattle.paper.specs.Table.{Record, filledBody, filledField, nameField, recordField}
-use Rattle.paper.proofs.Lists.{and-left, and-right}
+use Rattle.paper.proofs.Lists.{and-right}
 use Rattle.paper.proofs.Proofs.{record-lawful}
 use Rattle.paper.proofs.Kept.{record-bytewise, record-length}
 use Rattle.fields.proofs.Flat.{Flat, flat-as, flat-got, block-flat, fixed-flat, within-flat, epoch-flat, seq-flat, led-flat-where, view-flat, such-flat}

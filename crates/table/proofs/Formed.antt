@@ -1,26 +1,25 @@
 -- The layout of a record, as it is tested. Assumes nothing.
-use mathlib.Core.Path.{_≡_, refl, sym, ap, _∙_}
-use mathlib.Core.Logic.{_⊎_, inl, inr}
+use mathlib.Core.Path.{_≡_, sym, ap, _∙_}
+use mathlib.Core.Logic.{_⊎_}
 use mathlib.Core.Bool.{Bool, true, false, _&&_, and-true, and-false}
-use mathlib.Core.List.{List}
 use Prim.Native.Nat.{ℕ, suc, _+_, _-_, _*_, _≤_, _<_}
 use native.Mathlib.Omega.{arith}
 use lib.Dec.{eqb, leb}
 use lib.ListN.{length, take, drop, getD, length-drop}
 use lib.Seq.{getD-drop, drop-drop}
-use borrow.Author.Tests.{le-leb, lt-leb, leb-true}
+use borrow.Author.Tests.{leb-true}
 use Rattle.paper.specs.Lists.{every}
 use Rattle.paper.specs.Numbers.{recordSize, versionMost}
-use Rattle.paper.specs.Bytes.{Bytes, Bytewise, number, same, zeros}
+use Rattle.paper.specs.Bytes.{Bytes, Bytewise, number}
 use Rattle.paper.specs.Layout.{inLayout}
 use Rattle.paper.specs.Fields.{isName}
 use Rattle.paper.specs.Table.{filledField, recordField}
-use Rattle.paper.proofs.Lists.{and-left, and-right, all-drop, not-both, true-or-false}
+use Rattle.paper.proofs.Lists.{and-left, and-right, all-drop}
 use Rattle.words.proofs.Compare.{zeros-same}
 use Rattle.words.proofs.Pasted.{length-part}
 use Rattle.fields.proofs.Flat.{flat-in, inside, outside}
 use Rattle.record.specs.Places.{recordIn, recordAt, Stands}
-use Rattle.record.proofs.Form.{filledTest, filledIn, filled-flat, recordTest, record-flat}
+use Rattle.record.proofs.Form.{filledTest, filled-flat, record-flat}
 
 -- ---- a length, so many bytes, and zeros up to 64
 

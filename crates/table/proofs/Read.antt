@@ -2,24 +2,24 @@
 -- nothing.
 use mathlib.Core.Path.{_≡_, refl, sym, ap, ap₂, _∙_}
 use mathlib.Core.Logic.{⊎-elim, by-cases}
-use mathlib.Core.Bool.{Bool, true, false, _&&_}
-use mathlib.Core.List.{List, [], _∷_, _++_, map, append-nil}
+use mathlib.Core.Bool.{true, false}
+use mathlib.Core.List.{List, [], _∷_, map, append-nil}
 use Prim.Native.Nat.{ℕ, zero, suc, _+_, _-_, _*_, _≤_, _<_}
 use native.Mathlib.Omega.{arith}
-use native.Mathlib.Decide.{decLt, ℕ-discrete}
+use native.Mathlib.Decide.{ℕ-discrete}
 use lib.ListN.{length, take, drop, getD, length-take, length-drop, drop-of-length-le}
-use lib.Seq.{getD-take, drop-drop, take-take, take-all, length-take-le}
+use lib.Seq.{getD-take, drop-drop, take-take, length-take-le}
 use Rattle.paper.specs.Lists.{All, upFrom}
 use Rattle.paper.specs.Numbers.{recordSize}
-use Rattle.paper.specs.Bytes.{Bytes, Bytewise, number, same, zeros}
-use Rattle.paper.specs.Layout.{Read, got, bad, Layout, andThen, times, timesRead, timesBytes, whole, parse, inLayout}
+use Rattle.paper.specs.Bytes.{Bytes, Bytewise}
+use Rattle.paper.specs.Layout.{Read, got, bad, andThen, times, timesRead, whole, inLayout}
 use Rattle.paper.specs.Table.{Record, recordField, counted}
 use Rattle.paper.proofs.Lists.{all-take, all-drop, drop-take, not-both, true-or-false}
 use Rattle.paper.proofs.Layouts.{times-lawful, bytes-parse}
 use Rattle.paper.proofs.Proofs.{record-lawful}
 use Rattle.paper.proofs.Kept.{records-length}
 use Rattle.fields.proofs.Flat.{flat-in, flat-yes, flat-got}
-use Rattle.record.specs.Places.{recordIn, recordAt, recordsIn, Stands}
+use Rattle.record.specs.Places.{recordAt, recordsIn, Stands}
 use Rattle.record.proofs.Places.{records-take}
 use Rattle.record.proofs.Form.{filledTest, filledIn, recordTest, record-flat, records-back}
 use Rattle.table.proofs.Formed.{formed, formed-stands}

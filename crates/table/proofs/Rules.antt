@@ -1,5 +1,5 @@
 -- The rules of records, by the record before and record by record. Assumes nothing.
-use mathlib.Core.Path.{_≡_, refl, sym, ap, ap₂, _∙_}
+use mathlib.Core.Path.{_≡_, sym, ap, _∙_}
 use mathlib.Core.Logic.{by-cases}
 use mathlib.Core.Bool.{Bool, true, false, _&&_, and-true, and-false, and-assoc}
 use mathlib.Core.List.{List, [], _∷_, _++_, append-nil, append-assoc}
@@ -12,7 +12,7 @@ use Rattle.paper.specs.Lists.{every}
 use Rattle.paper.specs.Bytes.{Bytes}
 use Rattle.paper.specs.Labelling.{Labelling, plain}
 use Rattle.paper.specs.Table.{Record, follows, inShape}
-use Rattle.paper.proofs.Lists.{all-in, in-all, and-left, and-right}
+use Rattle.paper.proofs.Lists.{all-in, in-all, and-right}
 use Rattle.paper.proofs.Records.{follows-facts}
 use Rattle.record.specs.Places.{recordAt, recordsIn}
 use Rattle.record.proofs.Places.{records-none, records-snoc}

@@ -2,7 +2,7 @@
 -- nothing.
 use mathlib.Core.Path.{_≡_, refl, sym, ap, _∙_}
 use mathlib.Core.Logic.{by-cases}
-use mathlib.Core.Bool.{Bool, true, false}
+use mathlib.Core.Bool.{true, false}
 use mathlib.Core.List.{List}
 use Prim.Native.Nat.{ℕ, suc, _-_, _≤_, _<_}
 use native.Mathlib.Omega.{arith}
@@ -12,7 +12,7 @@ use lib.Seq.{getD-set-same, getD-set-other, ext-getD}
 use borrow.Author.Tests.{eq-eqb, ne-eqb, eqb-true}
 use Rattle.paper.specs.Numbers.{recordsMost}
 use Rattle.paper.specs.Bytes.{Bytes, same}
-use Rattle.paper.specs.Labelling.{plain, sameName}
+use Rattle.paper.specs.Labelling.{sameName}
 use Rattle.paper.proofs.Bytes.{same-eq}
 use Rattle.record.specs.Places.{recordAt, Stands}
 use Rattle.table.specs.Index.{buckets, bucketOf, lastWhere, named, falls, Indexed}

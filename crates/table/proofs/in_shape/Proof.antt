@@ -1,7 +1,6 @@
 -- `table::in_shape`: where the head and the records lie in their tables, the records decide.
 use borrow.Author.Needs.{needs}
 use native.Mathlib.Omega.{arith}
-use Rattle.paper.specs.Bytes.{Bytewise}
 use Rattle.words.proofs.Slices.{bytewise}
 use Rattle.table.proofs.Walk.{index-none}
 use Rattle.table.proofs.Shapes.{head-fails, records-fail, records-decide}

@@ -1,7 +1,7 @@
 -- `table::follow::does_follow`: the rules in two parts.
 use borrow.Author.Needs.{needs}
 use borrow.Author.Tests.{not-true, not-false}
-use mathlib.Core.Path.{_≡_, sym, _∙_}
+use mathlib.Core.Path.{sym, _∙_}
 use Rattle.record.specs.Places.{recordAt, recordsIn}
 use Rattle.table.proofs.Rules.{follows-parts}
 use Rattle.table.proofs.follow.does_follow.Statement.{statement}

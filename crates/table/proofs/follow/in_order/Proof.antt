@@ -1,7 +1,7 @@
 -- `table::follow::in_order`: the record before decides whether epochs fall.
 use borrow.Author.Needs.{needs}
 use native.Mathlib.Omega.{arith}
-use mathlib.Core.Path.{_≡_, sym, ap₂, _∙_}
+use mathlib.Core.Path.{sym, ap₂, _∙_}
 use lib.Dec.{leb}
 use Rattle.table.proofs.Rules.{epoch-low, epoch-high, epoch-first, epoch-next}
 use Rattle.table.proofs.follow.in_order.Statement.{statement}
