@@ -1,25 +1,20 @@
 -- The tests of an audit record's fields, as the layout makes them and as bytes are compared. Assumes nothing.
 use mathlib.Core.Path.{_≡_, refl, sym, ap, _∙_}
 use mathlib.Core.Logic.{⊎-elim}
-use mathlib.Core.Bool.{true, false, not, _&&_}
+use mathlib.Core.Bool.{true, false, not}
 use mathlib.Core.List.{[], _∷_, _++_}
 use Prim.Native.Nat.{ℕ, zero, suc, _*_, _^_, _≤_, _<_}
 use native.Mathlib.Omega.{arith}
 use lib.Dec.{eqb}
-use lib.ListN.{length, take, drop, getD, replicate, length-append, length-drop, length-replicate, take-append-drop}
+use lib.ListN.{length, take, drop, replicate, length-append, length-drop, length-replicate, take-append-drop}
 use lib.Seq.{drop-at, length-take-le}
 use borrow.Author.Tests.{eq-eqb, ne-eqb}
 use Rattle.paper.specs.Lists.{every}
-use Rattle.paper.specs.Bytes.{Bytes, Bytewise, be, number, same, zeros}
+use Rattle.paper.specs.Bytes.{Bytes, Bytewise, be, number, same}
 use Rattle.paper.specs.Bits.{Bits, bitsOf, pack}
 use Rattle.paper.proofs.Lists.{true-or-false, not-both}
 use Rattle.paper.proofs.Bytes.{same-eq, eq-same, number-be, be-number, bitsOf-length, bitsOf-pack, pack-bitsOf, pack-fill}
 use Rattle.words.proofs.Compare.{not-same}
-
--- what is known of each element is known of all
-pub bytewise : (s : Bytes) → ((i : ℕ) → getD s i 0 < 256) → Bytewise s
-bytewise [] h = tt
-bytewise (b ∷ s) h = (h 0, bytewise s (λ i. h (suc i)))
 
 -- bytes that hold a number are the bytes of that number
 pub number-same : (x : Bytes) (n : ℕ) → Bytewise x → n < 256 ^ length x → eqb (number x) n ≡ same x (be (length x) n)
@@ -27,12 +22,6 @@ number-same x n w h = ⊎-elim
     (λ e. eq-eqb (number x) n (ap number (same-eq x _ e) ∙ number-be (length x) n h) ∙ sym e)
     (λ e. ne-eqb (number x) n (λ q. not-both (eq-same (sym (be-number x w) ∙ ap (be (length x)) q)) e) ∙ sym e)
     (true-or-false (same x (be (length x) n)))
-
--- zero bytes are the filling
-pub zeros-same : (x : Bytes) → every (λ b. eqb b 0) x ≡ same x (zeros (length x))
-unfolding every same
-zeros-same [] = refl
-zeros-same (b ∷ x) = ap (λ t. eqb b 0 && t) (zeros-same x)
 
 -- bits that are all zero
 all-zero : (p : Bits) → every not p ≡ true → p ≡ replicate (length p) false

@@ -20,11 +20,11 @@ use Rattle.paper.specs.Audit.{unchanged, fresh, recordKind, recordOf, leafField
 use Rattle.paper.proofs.Lists.{not-both, and-left, and-right, all-take, all-drop}
 use Rattle.paper.proofs.Bytes.{same-eq, number-lt, bitsOf-length, pack-bitsOf}
 use Rattle.words.proofs.Number.{number-one}
-use Rattle.words.proofs.Compare.{not-same}
+use Rattle.words.proofs.Compare.{not-same, zeros-same}
 use Rattle.words.proofs.Pasted.{length-part}
 use Rattle.audit_form.specs.Places.{labelAt, keyAt, recordBy, recordAt, Formed}
 use Rattle.audit_form.proofs.At.{ReadAt, block-at, fixed-at, within-at, seq-at, led-at, view-at, such-at}
-use Rattle.audit_form.proofs.Fields.{number-same, zeros-same, prefix-same}
+use Rattle.audit_form.proofs.Fields.{number-same, prefix-same}
 
 -- the value matters where the test holds alone, and a value was read where it does
 other-value : {A : Type 0} {a : Layout A} {s : Bytes} {at : ℕ} {t : Bool} {x : A} (y : A) {next : ℕ} → ReadAt a s at t x next → (t ≡ true → x ≡ y) → ReadAt a s at t y next

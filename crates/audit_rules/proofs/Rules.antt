@@ -15,7 +15,7 @@ use Rattle.paper.specs.Audit.{AuditRecord, before?, inOrder, recordRule, commit
 use Rattle.words.proofs.Pasted.{length-part}
 use Rattle.bit_order.proofs.Cut.{before-cut}
 use Rattle.audit_form.specs.Places.{labelAt, keyAt, recordBy, recordAt, recordsAt}
-use Rattle.audit_form.proofs.Fields.{zeros-same}
+use Rattle.words.proofs.Compare.{zeros-same}
 use Rattle.audit_form.proofs.Places.{record-key, label-bits, labels-differ}
 
 -- two records in order: each key goes on past what the labels share, and there the second has a 1

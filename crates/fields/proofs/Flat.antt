@@ -10,7 +10,7 @@ use lib.ListN.{length, take, drop, length-take, length-drop}
 use lib.Seq.{drop-drop, length-take-le}
 use borrow.Author.Tests.{le-leb, lt-leb, leb-true}
 use Rattle.paper.specs.Bytes.{Bytes, Bytewise, number, same}
-use Rattle.paper.specs.Layout.{Read, got, bad, Layout, andThen, block, fixed, within, seq, led, such, view}
+use Rattle.paper.specs.Layout.{Read, got, bad, Layout, andThen, block, fixed, within, seq, led, such, view, inLayout}
 use Rattle.paper.specs.Fields.{epochField}
 use Rattle.paper.proofs.Lists.{all-take, all-drop}
 use Rattle.paper.proofs.Bytes.{same-eq, number-lt}
@@ -73,6 +73,14 @@ module _ {A : Type 0} {read : Bytes → Read A} {n : ℕ} {ok : Bytes → Bool} 
 
   pub flat-no : ok s ≡ false → read s ≡ bad
   flat-no e = f .reads s w ∙ rw (e, and-false (leb n (length s)))
+
+  -- whether anything is
+  pub flat-in : n ≤ length s → inLayout (read s) ≡ ok s
+  flat-in h = ap inLayout (f .reads s w) ∙ rw (le-leb n (length s) h) (by (ok s))
+    where
+      by : (b : Bool) → inLayout (cond b (got (value s) (drop n s)) bad) ≡ b
+      by true = refl
+      by false = refl
 
   -- what was read was there and passed
   pub flat-got : (x : A) (r : Bytes) → read s ≡ got x r → (n ≤ length s) × (ok s ≡ true) × (value s ≡ x) × (drop n s ≡ r)

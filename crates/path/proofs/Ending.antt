@@ -1,12 +1,9 @@
 -- What parsing an end gives, by its kind and its bytes. Assumes nothing.
 use mathlib.Core.Path.{_≡_, _∙_}
 use mathlib.Core.Bool.{Bool, true, false}
-use mathlib.Core.List.{[], _∷_}
-use Prim.Native.Nat.{ℕ, suc, _+_, _-_, _≤_, _<_}
+use Prim.Native.Nat.{ℕ, _+_, _-_, _≤_, _<_}
 use native.Mathlib.Omega.{arith}
 use native.Mathlib.Nat.{add-zero}
-use mir.Val.{Fits}
-use mir.Syntax.{w8}
 use lib.ListN.{length, drop, getD, length-drop}
 use lib.Seq.{drop-drop}
 use borrow.Author.Tests.{le-leb, lt-leb, eq-eqb, ne-eqb}
@@ -21,11 +18,6 @@ use Rattle.path.specs.Parsed.{placed, commitmentOf, noEnd, endedAt}
 use Rattle.path.specs.declared.End.the-variants.{Nothing}
 use Rattle.fields.proofs.Flat.{Flat, flat-yes, flat-short, flat-no, within-flat}
 use Rattle.path.proofs.Fields.{none-flat}
-
--- the elements of a slice of bytes are bytes
-pub bytewise : (s : Bytes) → ((i : ℕ) → Fits w8 (getD s i 0)) → Bytewise s
-bytewise [] h = tt
-bytewise (b ∷ s) h = (h 0 .fits, bytewise s (λ i. h (suc i)))
 
 -- ---- an end of a fixed size
 

@@ -1,20 +1,20 @@
 -- The layout of a record by places: it is read in 168 bytes, and what is read is the record that stands there. Assumes nothing.
 use mathlib.Core.Path.{_≡_, refl, sym, ap, ap₂, _∙_}
-use mathlib.Core.Bool.{Bool, true, _&&_}
+use mathlib.Core.Bool.{Bool, _&&_, and-true}
 use mathlib.Core.List.{List, [], _∷_, _++_, append-assoc, append-nil}
-use Prim.Native.Nat.{ℕ, suc, _+_, _-_, _*_, _≤_}
+use Prim.Native.Nat.{ℕ, suc, _+_, _-_, _≤_}
 use native.Mathlib.Omega.{arith}
 use lib.Dec.{leb}
-use lib.ListN.{length, take, drop, getD, length-append, length-replicate}
-use lib.Seq.{getD-drop, drop-drop, take-take, length-take-le}
+use lib.ListN.{length, take, drop, getD, length-replicate}
+use lib.Seq.{getD-drop, drop-drop, take-take}
 use borrow.Author.Tests.{leb-true}
 use Rattle.paper.specs.Lists.{All}
 use Rattle.paper.specs.Numbers.{wide, versionMost, recordSize}
-use Rattle.paper.specs.Bytes.{Bytes, Bytewise, number, same, zeros}
+use Rattle.paper.specs.Bytes.{Bytes, number, same, zeros}
 use Rattle.paper.specs.Layout.{within, timesBytes}
-use Rattle.paper.specs.Fields.{isName, digestField, epochField}
+use Rattle.paper.specs.Fields.{isName, epochField}
 use Rattle.paper.specs.Table.{Record, filledBody, filledField, nameField, recordField}
-use Rattle.paper.proofs.Lists.{and-left, and-right}
+use Rattle.paper.proofs.Lists.{and-right}
 use Rattle.paper.proofs.Proofs.{record-lawful}
 use Rattle.paper.proofs.Kept.{record-bytewise, record-length}
 use Rattle.fields.proofs.Flat.{Flat, flat-as, flat-got, block-flat, fixed-flat, within-flat, epoch-flat, seq-flat, led-flat-where, view-flat, such-flat}
@@ -39,7 +39,7 @@ body-flat n h =
     let e = length-replicate {A = ℕ} (64 - n) 0 in
     flat-as (omega (arith, e)) (λ s. rw e) (λ s. sym (take-take n 64 s h)) (view-flat _ _ _ (seq-flat _ _ (block-flat n) (λ _. fixed-flat (zeros (64 - n)))))
 
-filled-flat : Flat (filledField .read) 65 filledTest filledIn
+pub filled-flat : Flat (filledField .read) 65 filledTest filledIn
 filled-flat = flat-as refl
     (λ s. rw (first-number s, drop-drop (getD s 0 0) 1 s))
     (λ s. rw (first-number s))
@@ -51,13 +51,12 @@ filled-flat = flat-as refl
 abbrev pub recordTest : Bytes → Bool
 recordTest s =
     (filledTest s && isName (filledIn s))
-    && ((leb 1 (number (take 2 (drop 65 s))) && leb (number (take 2 (drop 65 s))) versionMost)
-    && (true && (filledTest (drop 71 s) && true)))
+    && ((leb 1 (number (take 2 (drop 65 s))) && leb (number (take 2 (drop 65 s))) versionMost) && filledTest (drop 71 s))
 
 pub record-flat : Flat (recordField .read) recordSize recordTest recordIn
 unfolding recordIn
 record-flat = flat-as refl
-    (λ s. rw (drop-drop 2 65 s, drop-drop 4 67 s))
+    (λ s. rw (drop-drop 2 65 s, drop-drop 4 67 s, and-true (filledTest (drop 71 s))))
     (λ s. rw (drop-drop 2 65 s, drop-drop 4 67 s, drop-drop 65 71 s, drop-drop 1 71 s, getD-drop 71 s 0 0))
     (view-flat _ _ _
     (seq-flat nameField _ (such-flat filledField isName filled-flat)

@@ -2,3 +2,4 @@
 pub mod Pasted
 pub mod Number
 pub mod Compare
+pub mod Slices

@@ -7,7 +7,7 @@ use borrow.Author.Tests.{not-true, not-false}
 use Rattle.paper.specs.Layout.{parse, inLayout}
 use Rattle.paper.specs.Audit.{auditField, auditRead}
 use Rattle.audit_form.specs.Places.{Laid}
-use Rattle.audit_form.proofs.Fields.{bytewise}
+use Rattle.words.proofs.Slices.{bytewise}
 use Rattle.audit_form.proofs.Form.{audit-bad, audit-reads, audit-laid}
 use Rattle.audit.proofs.Parts.{input-old, input-new, input-fits, heads-refused, heads-passed}
 use Rattle.audit.proofs.check_audit.Statement.{statement}
@@ -21,7 +21,7 @@ laid : (c : tie.Else3) → Laid (c .before .before .before .before .before .befo
 laid c =
     let known = c .before .before .before .before in
     let s = known .before .before .before .args .proof .now in
-    audit-laid s (bytewise s (λ i. known .shared-slice-known3 .given i .fits)) (read c)
+    audit-laid s (bytewise s (known .shared-slice-known3 .given)) (read c)
 
 returns : tie.Need-returns
 returns c =

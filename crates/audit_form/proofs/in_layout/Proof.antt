@@ -4,7 +4,7 @@ use native.Mathlib.Omega.{arith}
 use mathlib.Core.Path.{sym, _∙_}
 use lib.Seq.{length-take-le}
 use borrow.Author.Tests.{not-true, not-false}
-use Rattle.audit_form.proofs.Fields.{bytewise}
+use Rattle.words.proofs.Slices.{bytewise}
 use Rattle.audit_form.proofs.Form.{list-place, audit-short, audit-closed, audit-none, audit-ends}
 use Rattle.audit_form.proofs.in_layout.Statement.{statement}
 use Rattle.audit_form.proofs.in_layout.Tie as tie
@@ -42,7 +42,7 @@ returns-3 : tie.Need-returns-3
 returns-3 c =
     let called = c .before .before .before .before in
     let s = called .before .before .before .before .before .before .before .args .proof .now in
-    let w = bytewise s (λ i. called .before .before .before .before .before .before .shared-slice-known .given i .fits) in
+    let w = bytewise s (called .before .before .before .before .before .before .shared-slice-known .given) in
     c .list-ends .ensures
     ∙ sym (audit-ends s w (omega arith) (sym (called .before .before .same .ensures) ∙ not-false _ (called .before .if2 .left)) _ (sym (called .after-list .ensures) ∙ c .before .before .old .given .1))
 

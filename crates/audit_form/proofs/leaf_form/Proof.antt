@@ -7,7 +7,7 @@ use lib.Dec.{eqb}
 use lib.ListN.{take, drop}
 use borrow.Author.Tests.{eq-eqb, ne-eqb}
 use Rattle.paper.specs.Lists.{every}
-use Rattle.audit_form.proofs.Fields.{bytewise}
+use Rattle.words.proofs.Slices.{bytewise}
 use Rattle.audit_form.proofs.Record.{leaf-test}
 use Rattle.audit_form.proofs.leaf_form.Statement.{statement}
 use Rattle.audit_form.proofs.leaf_form.Tie as tie
@@ -22,7 +22,7 @@ returns : tie.Need-returns
 returns c =
     let start = c .before .before .before in
     let s = start .args .s .now in
-    let w = bytewise s (λ i. c .before .before .shared-slice-known .given i .fits) in
+    let w = bytewise s (c .before .before .shared-slice-known .given) in
     sym (leaf-test s (start .args .at) w (start .pre) ∙ rw (ne-eqb _ 256 (λ e. c .if1 .taken (c .before .read16 .ensures ∙ e))))
 
 add-filling : tie.Need-add-filling
@@ -48,7 +48,7 @@ returns-2 c =
     let start = c .before .before .before .before .before in
     let s = start .args .s .now in
     let at = start .args .at in
-    let w = bytewise s (λ i. c .before .before .before .before .shared-slice-known .given i .fits) in
+    let w = bytewise s (c .before .before .before .before .shared-slice-known .given) in
     let e : at + 99 - (at + 71) ≡ 28 = omega arith in
     c .all-zero .ensures
     ∙ ap (λ n. every (λ b. eqb b 0) (take n (drop (at + 71) s))) e

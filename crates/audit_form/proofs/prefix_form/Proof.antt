@@ -10,7 +10,7 @@ use Rattle.paper.specs.Numbers.{wide}
 use Rattle.paper.specs.Bytes.{number, same}
 use Rattle.paper.specs.Bits.{bitsOf, pack}
 use Rattle.audit_form.specs.Places.{keyAt}
-use Rattle.audit_form.proofs.Fields.{bytewise}
+use Rattle.words.proofs.Slices.{bytewise}
 use Rattle.audit_form.proofs.Record.{prefix-out, prefix-in}
 use Rattle.audit_form.proofs.prefix_form.Statement.{statement}
 use Rattle.audit_form.proofs.prefix_form.Tie as tie
@@ -50,7 +50,7 @@ returns-2 c =
     let start = read .before .before in
     let s = start .args .s .now in
     let at = start .args .at in
-    let w = bytewise s (λ i. read .before .shared-slice-known .given i .fits) in
+    let w = bytewise s (read .before .shared-slice-known .given) in
     let n = read .read16 .ensures in
     let least : 1 ≤ number (take 2 (drop (at + 1) s)) = omega arith in
     let most : number (take 2 (drop (at + 1) s)) ≤ 255 = omega (arith, ltb-false) in

@@ -2,7 +2,7 @@
 use borrow.Author.Needs.{needs}
 use native.Mathlib.Omega.{arith}
 use Prim.Native.Nat.{_-_}
-use Rattle.path.proofs.Ending.{bytewise}
+use Rattle.words.proofs.Slices.{bytewise}
 use Rattle.shown.specs.declared.Place.the-variants.{AsMarker}
 use Rattle.history.specs.Asks.{lack}
 use Rattle.history.proofs.Going.{Going, going-starts, going-ready, going-on, going-ends}

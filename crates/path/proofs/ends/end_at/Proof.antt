@@ -7,7 +7,8 @@ use lib.ListN.{getD}
 use Rattle.paper.specs.Bytes.{Bytewise}
 use Rattle.paper.specs.Fields.{endOf, endField}
 use Rattle.path.specs.Parsed.{endedAt}
-use Rattle.path.proofs.Ending.{bytewise, kind-missing, kind-good, kind-bad, none-yes, none-no}
+use Rattle.words.proofs.Slices.{bytewise}
+use Rattle.path.proofs.Ending.{kind-missing, kind-good, kind-bad, none-yes, none-no}
 use Rattle.path.proofs.ends.end_at.Statement.{statement}
 use Rattle.path.proofs.ends.end_at.Tie as tie
 

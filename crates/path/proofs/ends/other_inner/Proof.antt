@@ -4,7 +4,8 @@ use borrow.Author.Tests.{not-true, not-false}
 use mathlib.Core.Path.{sym, _∙_}
 use Rattle.paper.specs.Fields.{endOf}
 use Rattle.path.proofs.Fields.{off-flat}
-use Rattle.path.proofs.Ending.{bytewise, ended-yes, ended-short, ended-no}
+use Rattle.words.proofs.Slices.{bytewise}
+use Rattle.path.proofs.Ending.{ended-yes, ended-short, ended-no}
 use Rattle.path.proofs.ends.other_inner.Statement.{statement}
 use Rattle.path.proofs.ends.other_inner.Tie as tie
 

@@ -6,7 +6,8 @@ use lib.Seq.{drop-drop}
 use Rattle.paper.specs.Bytes.{number}
 use Rattle.paper.specs.Fields.{endOf}
 use Rattle.path.proofs.Fields.{other-flat}
-use Rattle.path.proofs.Ending.{bytewise, ended-yes, ended-short}
+use Rattle.words.proofs.Slices.{bytewise}
+use Rattle.path.proofs.Ending.{ended-yes, ended-short}
 use Rattle.path.proofs.ends.other_leaf.Statement.{statement}
 use Rattle.path.proofs.ends.other_leaf.Tie as tie
 

@@ -6,7 +6,7 @@ use Rattle.paper.specs.Layout.{times}
 use Rattle.paper.specs.Shows.{itemField}
 use Rattle.paper.proofs.Layouts.{times-lawful}
 use Rattle.paper.proofs.Proofs.{item-lawful}
-use Rattle.path.proofs.Ending.{bytewise}
+use Rattle.words.proofs.Slices.{bytewise}
 use Rattle.shown.specs.Form.{afterAt}
 use Rattle.shown.specs.declared.After.the-variants.{At}
 use Rattle.shown.proofs.Behind.{after-within}

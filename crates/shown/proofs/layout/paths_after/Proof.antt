@@ -10,7 +10,7 @@ use Rattle.paper.specs.Layout.{times}
 use Rattle.paper.specs.Fields.{pathField}
 use Rattle.paper.specs.Bytes.{Bytewise}
 use Rattle.paper.proofs.Proofs.{path-lawful}
-use Rattle.path.proofs.Ending.{bytewise}
+use Rattle.words.proofs.Slices.{bytewise}
 use Rattle.shown.specs.Form.{afterAt}
 use Rattle.shown.proofs.Behind.{after-within, loop-on, loop-stop, loop-end, path-on, path-stop}
 use Rattle.shown.proofs.layout.paths_after.Statement.{statement}

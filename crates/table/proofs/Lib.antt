@@ -1,0 +1,8 @@
+-- Laws of tables, for the crates above too.
+pub mod Last
+pub mod Walk
+pub mod Own
+pub mod Rules
+pub mod Formed
+pub mod Read
+pub mod Shapes

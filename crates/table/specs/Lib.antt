@@ -1,0 +1,3 @@
+-- What the contracts of testing tables cite.
+pub mod Index
+pub mod Shape
