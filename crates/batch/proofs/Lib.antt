@@ -1,2 +1,3 @@
 -- Laws of batches.
 pub mod Places
+pub mod Form

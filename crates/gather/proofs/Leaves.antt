@@ -9,7 +9,7 @@ use lib.Pow.{pow-mono}
 use native.Mathlib.Decide.{decLe, ℕ-discrete}
 use mathlib.Core.Logic.{by-cases}
 use lib.Dec.{eqb, leb, ltb}
-use lib.ListN.{length, take, drop, getD, length-take}
+use lib.ListN.{length, take, drop, getD, length-take, length-append}
 use borrow.Author.Tests.{eq-eqb, ne-eqb, le-leb, lt-leb, lt-ltb, le-ltb}
 use Rattle.fips.specs.Sha256.{sha256}
 use Rattle.paper.specs.Numbers.{wide}
@@ -112,3 +112,9 @@ by-none old t s = rw (records-none s) refl
 
 pub by-snoc : (old : Bool) (t : ℕ) (s : Bytes) (i : ℕ) → leavesBy old t (recordsIn (suc i) s) ≡ leavesBy old t (recordsIn i s) ++ leavesBy old t (recordAt s i ∷ [])
 by-snoc old t s i = ap (leavesBy old t) (records-snoc i s) ∙ by-append old t (recordsIn i s) (recordAt s i ∷ [])
+
+-- a record gives two leaves at most
+pub by-few : (old : Bool) (t : ℕ) (s : Bytes) (n : ℕ) → length (leavesBy old t (recordsIn n s)) ≤ 2 * n
+by-few old t s zero = rw (by-none old t s) (omega arith)
+by-few old t s (suc n) =
+    rw (by-snoc old t s n) (omega (arith, length-append (leavesBy old t (recordsIn n s)) (leavesBy old t (recordAt s n ∷ [])), by-few old t s n, few-leaves (recordAt s n) old t))

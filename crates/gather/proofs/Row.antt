@@ -14,7 +14,7 @@ use Rattle.paper.proofs.Bytes.{be-length, number-be}
 use Rattle.words.proofs.Pasted.{pasted-pasted}
 use Rattle.gather.specs.Gathered.{Gained}
 
-leaves-none : (s : Bytes) → leavesIn 0 s ≡ []
+pub leaves-none : (s : Bytes) → leavesIn 0 s ≡ []
 unfolding leavesIn
 leaves-none s = refl
 
@@ -68,7 +68,7 @@ entry-leaf l c e h k w =
     rw (take-at l (c ++ be 4 e) 32 h, second, third)
 
 -- the first n leaves are those of the first n * 68 bytes
-leaves-taken : (n : ℕ) (s : Bytes) → n * 68 ≤ length s → leavesIn n (take (n * 68) s) ≡ leavesIn n s
+pub leaves-taken : (n : ℕ) (s : Bytes) → n * 68 ≤ length s → leavesIn n (take (n * 68) s) ≡ leavesIn n s
 leaves-taken n s h =
     sym (leaves-front n (take (n * 68) s) (drop (n * 68) s) (omega (arith, length-take-le (n * 68) s h))) ∙ ap (leavesIn n) (take-append-drop (n * 68) s)
 

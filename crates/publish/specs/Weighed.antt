@@ -2,23 +2,20 @@
 use mathlib.Core.Path.{_≡_}
 use mathlib.Core.Bool.{Bool, true, false}
 use mathlib.Core.List.{List, [], _∷_, _++_, map}
-use Prim.Native.Nat.{ℕ, suc, _+_, _*_, _/_, _≤_}
+use Prim.Native.Nat.{ℕ, suc, _+_, _*_, _/_, _≤_, _<_}
 use lib.Dec.{leb}
 use lib.ListN.{length, take, drop}
 use Rattle.paper.specs.Lists.{every}
-use Rattle.paper.specs.Numbers.{wide, versionMost, recordSize, updateSize}
+use Rattle.paper.specs.Numbers.{wide, versionMost, recordSize, recordsMost, updateSize}
 use Rattle.paper.specs.Bytes.{Bytes, be, pasted}
 use Rattle.paper.specs.Labelling.{plain}
 use Rattle.paper.specs.Layout.{timesBytes}
-use Rattle.paper.specs.Table.{Record, recordField, distinct}
-use Rattle.paper.specs.Tree.{rootDigest}
+use Rattle.paper.specs.Table.{Record, recordField}
 use Rattle.paper.specs.Publish.{Published, newRecord, unpublished, publish}
 use Rattle.paper.specs.declared.State.{State}
 use Rattle.paper.specs.declared.PublishAnswer.the-variants as P
-use Rattle.record.specs.Places.{recordsIn}
+use Rattle.record.specs.Places.{recordsIn, Stands}
 use Rattle.batch.specs.Places.{updatesIn}
-use Rattle.gather.specs.Gathered.{leavesBy}
-use Rattle.publish.specs.declared.Planted.{Planted}
 use Rattle.publish.specs.declared.Weighed.{Weighed}
 
 -- "An update has 162 bytes: a record without version and epoch.": the record's bytes, from the update's
@@ -34,10 +31,11 @@ pub record Prepared (records : Bytes) (count epoch : ℕ) (batch : Bytes) (n : �
   pub is : r ≡ every (λ q. leb (q .version) versionMost) (newRecords records count epoch batch n)
   pub bytes : r ≡ true → take (n * recordSize) fresh ≡ timesBytes (recordField .bytes) (newRecords records count epoch batch n)
 
--- whether no two leaves of a tree share a label, and then its root
-pub record Plants (old : Bool) (epoch : ℕ) (rs : List Record) (r : Planted) : Type 0 where
-  pub is : r .clear ≡ distinct (leavesBy old epoch rs)
-  pub root : r .clear ≡ true → r .root ≡ rootDigest (leavesBy old epoch rs)
+-- the records of the table and the new ones can be read, and a tree has room for their leaves
+pub record Plantable (records : Bytes) (count : ℕ) (fresh : Bytes) (n : ℕ) : Type 0 where
+  pub stand : (i : ℕ) → i < count → Stands records i
+  pub new : (i : ℕ) → i < n → Stands fresh i
+  pub few : count + n ≤ recordsMost
 
 -- what publishing leaves, from the new records' bytes and the new head
 abbrev pub leaving : Bytes → Bytes → State → ℕ → Bytes → Bytes → Published

@@ -30,7 +30,7 @@ module _ (s : Bytes) (at : ℕ) (w : Bytewise s) (room : at + 65 ≤ length s) w
   size-is : getD (drop at s) 0 0 ≡ size
   size-is = let e : at + 0 ≡ at = omega arith in getD-drop at s 0 0 ∙ ap (λ i. getD s i 0) e
 
-  filled-is : inLayout (filledField .read (drop at s)) ≡ filledTest (drop at s)
+  pub filled-is : inLayout (filledField .read (drop at s)) ≡ filledTest (drop at s)
   filled-is = flat-in filled-flat (drop at s) (all-drop _ at s w) (omega (arith, length-drop at s))
 
   pub filled-out : (size < 1) ⊎ (64 < size) → inLayout (filledField .read (drop at s)) ≡ false

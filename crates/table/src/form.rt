@@ -10,7 +10,7 @@ ghost use Rattle.paper.specs.Layout.{inLayout};
 ghost use Rattle.paper.specs.Table.{filledField, recordField};
 
 // "name length 1, name 64", "key length 1, key 64", "unused bytes zero": a length of 1 to 64, and zeros behind so many bytes.
-fn filled(s: &[u8], at: usize) -> bool
+pub fn filled(s: &[u8], at: usize) -> bool
     requires { ⌜ at + 65 ≤ length (now s) ⌝ }
     ensures { λ r. ⌜ r ≡ inLayout (filledField .read (drop at (now (s .entry)))) ⌝ }
 {

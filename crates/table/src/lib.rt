@@ -5,6 +5,7 @@ mod form;
 mod index;
 
 use follow::all_follow;
+pub use form::filled;
 use index::clear;
 use index::last_of;
 use record::version_at;
