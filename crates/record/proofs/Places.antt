@@ -95,6 +95,15 @@ at-take s k i h =
 pub at-same : (s t : Bytes) (k i : ℕ) → suc i * recordSize ≤ k → take k s ≡ take k t → recordAt s i ≡ recordAt t i
 at-same s t k i h e = sym (at-take s k i h) ∙ ap (λ x. recordAt x i) e ∙ at-take t k i h
 
+pub stands-same : (s t : Bytes) (k i : ℕ) → suc i * recordSize ≤ k → k ≤ length t → take k s ≡ take k t → Stands s i → Stands t i
+stands-same s t k i h l e x =
+    let byte : (j : ℕ) → j < k → getD s j 0 ≡ getD t j 0 = λ j m. sym (getD-take k s j 0 m) ∙ ap (λ u. getD u j 0) e ∙ getD-take k t j 0 m in
+    record {
+      reach = omega arith;
+      name-short = omega (arith, byte (i * recordSize) (omega arith), x .name-short);
+      key-short = omega (arith, byte (i * recordSize + 71) (omega arith), x .key-short);
+    }
+
 pub at-left : (a b : Bytes) (i : ℕ) → suc i * recordSize ≤ length a → recordAt (a ++ b) i ≡ recordAt a i
 unfolding recordAt
 at-left a b i h =

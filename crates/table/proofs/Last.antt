@@ -44,6 +44,12 @@ module _ (t : ℕ → Bool) where
       by true e f = let q : n ≡ k = omega (arith, last-yes n e) in ap t (sym q) ∙ e
       by false e f = f (sym (last-no n e) ∙ h)
 
+-- what passes below n decides
+pub last-same : (t u : ℕ → Bool) (n : ℕ) → ((k : ℕ) → k < n → t k ≡ u k) → lastWhere t n ≡ lastWhere u n
+unfolding lastWhere
+last-same t u zero h = refl
+last-same t u (suc n) h = rw (h n (omega arith), last-same t u n (λ k l. h k (omega arith)))
+
 -- where all that pass one test pass another, the last that passes the first is not above the last that passes the second
 pub last-below : (t u : ℕ → Bool) → ((k : ℕ) → u k ≡ true → t k ≡ true) → (n : ℕ) → lastWhere u n ≡ lastWhere u (lastWhere t n)
 unfolding lastWhere

@@ -96,14 +96,14 @@ module _ (s name : Bytes) where
 
 -- ---- what may follow the first n records, which are in shape
 
-module _ (s : Bytes) (n epoch : ℕ) (r : Record) where
+module _ (s : Bytes) (n : ℕ) (r : Record) where
   pub follows-none : lastWhere (named s (r .name)) n ≡ 0 → versionFollows (recordsIn n s) r ≡ eqb (r .version) 1
   unfolding every
   follows-none h = rw (own-none s (r .name) n h) (and-true (eqb (r .version) 1))
 
-  pub follows-last : inShape plain epoch [] (recordsIn n s) ≡ true → (k : ℕ) → lastWhere (named s (r .name)) n ≡ suc k
+  pub follows-last : (epoch : ℕ) → inShape plain epoch [] (recordsIn n s) ≡ true → (k : ℕ) → lastWhere (named s (r .name)) n ≡ suc k
       → versionFollows (recordsIn n s) r ≡ (eqb (r .version) (suc (recordAt s k .version)) && ltb (recordAt s k .epoch) (r .epoch))
-  follows-last shape k h =
+  follows-last epoch shape k h =
       let q = recordAt s k in
       let l = own s (r .name) k in
       let o : own s (r .name) n ≡ l ++ (q ∷ []) = own-last s (r .name) n k h in

@@ -4,19 +4,21 @@ use mathlib.Core.Path.{_≡_, refl, sym, ap, _∙_}
 use mathlib.Core.Logic.{by-cases}
 use mathlib.Core.Bool.{true, false}
 use mathlib.Core.List.{List}
-use Prim.Native.Nat.{ℕ, suc, _-_, _≤_, _<_}
+use Prim.Native.Nat.{ℕ, suc, _-_, _*_, _≤_, _<_}
 use native.Mathlib.Omega.{arith}
 use native.Mathlib.Decide.{decLt, ℕ-discrete}
-use lib.ListN.{length, getD, set, replicate, length-set, length-replicate, getD-replicate}
+use lib.ListN.{length, take, getD, set, replicate, length-set, length-replicate, getD-replicate}
 use lib.Seq.{getD-set-same, getD-set-other, ext-getD}
+use lib.Dec.{eqb}
 use borrow.Author.Tests.{eq-eqb, ne-eqb, eqb-true}
-use Rattle.paper.specs.Numbers.{recordsMost}
+use Rattle.paper.specs.Numbers.{recordSize, recordsMost}
 use Rattle.paper.specs.Bytes.{Bytes, same}
 use Rattle.paper.specs.Labelling.{sameName}
 use Rattle.paper.proofs.Bytes.{same-eq}
 use Rattle.record.specs.Places.{recordAt, Stands}
+use Rattle.record.proofs.Places.{at-same, stands-same}
 use Rattle.table.specs.Index.{buckets, bucketOf, lastWhere, named, falls, Indexed}
-use Rattle.table.proofs.Last.{last-none, last-yes, last-no, last-most, last-passes, last-below, bucket-lt}
+use Rattle.table.proofs.Last.{last-none, last-yes, last-no, last-most, last-passes, last-same, last-below, bucket-lt}
 
 -- names as they are spelled
 pub named-same : (s name : Bytes) (k : ℕ) → named s name k ≡ same (recordAt s k .name) name
@@ -91,6 +93,10 @@ index-none s first next f g l m e q = record {
   few = omega arith;
 }
 
+-- the records of an index stand, and one more
+pub stands-more : {s : Bytes} {n : ℕ} {first next : List ℕ} → Indexed s n first next → Stands s n → (k : ℕ) → k ≤ n → Stands s k
+stands-more {n = n} x here k h = by-cases (decLt k n) (λ l. x .stands k l) (λ l. let q : k ≡ n = omega arith in rw q here)
+
 module _ (s : Bytes) (n : ℕ) (first next : List ℕ) (x : Indexed s n first next) (here : Stands s n) (room : n < recordsMost) (b : ℕ) (e : b ≡ bucketOf (recordAt s n .name)) where
   abbrev more : List ℕ
   more = set first b (suc n)
@@ -114,10 +120,26 @@ module _ (s : Bytes) (n : ℕ) (first next : List ℕ) (x : Indexed s n first ne
 
   pub index-more : Indexed s (suc n) more linked
   index-more = record {
-    stands = λ k h. by-cases (decLt k n) (λ l. x .stands k l) (λ l. let q : k ≡ n = omega arith in rw q here);
+    stands = λ k h. stands-more x here k (omega arith);
     width = length-set first b (suc n) ∙ x .width;
     room = length-set next n (getD first b 0) ∙ x .room;
     heads = heads-more;
     links = links-more;
     few = room;
   }
+
+-- ---- the same records
+
+-- an index is one of every table with these records, whatever stands behind them
+pub index-same : (s t : Bytes) (n : ℕ) (first next : List ℕ) → n * recordSize ≤ length t → take (n * recordSize) s ≡ take (n * recordSize) t → Indexed s n first next → Indexed t n first next
+index-same s t n first next room e x =
+    let at : (k : ℕ) → k < n → recordAt s k ≡ recordAt t k = λ k h. at-same s t (n * recordSize) k (omega arith) e in
+    let same : (b m : ℕ) → m ≤ n → lastWhere (falls s b) m ≡ lastWhere (falls t b) m = λ b m l. last-same (falls s b) (falls t b) m (λ k h. ap (λ r. eqb (bucketOf (r .name)) b) (at k (omega arith))) in
+    record {
+      stands = λ k h. stands-same s t (n * recordSize) k (omega arith) room e (x .stands k h);
+      width = x .width;
+      room = x .room;
+      few = x .few;
+      heads = λ b h. x .heads b h ∙ same b n (omega arith);
+      links = λ k h. x .links k h ∙ same (bucketOf (recordAt s k .name)) k (omega arith) ∙ ap (λ r. lastWhere (falls t (bucketOf (r .name))) k) (at k h);
+    }

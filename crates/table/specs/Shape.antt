@@ -42,11 +42,10 @@ versionFollows earlier r =
     eqb (r .version) (suc (length (ownRecords plain (r .name) earlier)))
     && every (λ q. ltb (q .epoch) (r .epoch)) (ownRecords plain (r .name) earlier)
 
--- the first i records are in shape, and record i stands behind them
-pub record Reached (s : Bytes) (i epoch : ℕ) (first next : List ℕ) : Type 0 where
-  pub index : Indexed s i first next
+-- the first i records are in shape, and they and record i stand
+pub record Reached (s : Bytes) (i epoch : ℕ) : Type 0 where
   pub shape : inShape plain epoch [] (recordsIn i s) ≡ true
-  pub here : Stands s i
+  pub stands : (k : ℕ) → k ≤ i → Stands s k
 
 -- what tables in shape say of their bytes
 pub record Shaped (records heads : Bytes) (count epoch : ℕ) : Type 0 where

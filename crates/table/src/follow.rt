@@ -1,4 +1,4 @@
-// The rules that a record obeys behind those before it.
+// The rules that a record obeys behind those before it. Each looks at one earlier record: the one before, and the name's last one.
 use crate::form::in_form;
 use crate::index::enter;
 use crate::index::last_of;
@@ -6,7 +6,7 @@ use record::epoch_at;
 use record::name_at;
 use record::version_at;
 ghost use mathlib.Core.Path.{_≡_};
-ghost use Prim.Native.Nat.{_*_, _≤_};
+ghost use Prim.Native.Nat.{ℕ, _*_, _≤_};
 ghost use lib.ListN.{length};
 ghost use Rattle.paper.specs.Labelling.{plain};
 ghost use Rattle.paper.specs.Table.{follows};
@@ -15,8 +15,8 @@ ghost use Rattle.table.specs.Index.{Indexed};
 ghost use Rattle.table.specs.Shape.{epochFollows, versionFollows, Reached, Counted};
 
 // "epochs lie between 1 and the current one and never fall": those before record i never fell, so the last of them decides.
-fn in_order(s: &[u8], i: usize, epoch: u32, first: &[u16], next: &[u16]) -> bool
-    requires { ⌜ Reached (now s) i epoch (now first) (now next) ⌝ }
+fn in_order(s: &[u8], i: usize, epoch: u32) -> bool
+    requires { ⌜ Reached (now s) i epoch ⌝ }
     ensures { λ r. ⌜ r ≡ epochFollows epoch (recordsIn i (now (s .entry))) (recordAt (now (s .entry)) i) ⌝ }
 {
     let e = epoch_at(s, i);
@@ -33,8 +33,8 @@ fn in_order(s: &[u8], i: usize, epoch: u32, first: &[u16], next: &[u16]) -> bool
 }
 
 // "each name's versions run 1, 2, 3 with rising epochs": the name's last record before record i decides.
-fn runs_on(s: &[u8], i: usize, epoch: u32, first: &[u16], next: &[u16]) -> bool
-    requires { ⌜ Reached (now s) i epoch (now first) (now next) ⌝ }
+fn runs_on(s: &[u8], i: usize, first: &[u16], next: &[u16]) -> bool
+    requires { ⌜ ((epoch : ℕ) × Reached (now s) i epoch × Indexed (now s) i (now first) (now next)) ⌝ }
     ensures { λ r. ⌜ r ≡ versionFollows (recordsIn i (now (s .entry))) (recordAt (now (s .entry)) i) ⌝ }
 {
     let version = version_at(s, i) as u32;
@@ -48,14 +48,15 @@ fn runs_on(s: &[u8], i: usize, epoch: u32, first: &[u16], next: &[u16]) -> bool
     epoch_at(s, at - 1) < epoch_at(s, i)
 }
 
+// Whether record i obeys the rules behind those before it.
 fn does_follow(s: &[u8], i: usize, epoch: u32, first: &[u16], next: &[u16]) -> bool
-    requires { ⌜ Reached (now s) i epoch (now first) (now next) ⌝ }
+    requires { ⌜ Reached (now s) i epoch × Indexed (now s) i (now first) (now next) ⌝ }
     ensures { λ r. ⌜ r ≡ follows plain epoch (recordsIn i (now (s .entry))) (recordAt (now (s .entry)) i) ⌝ }
 {
-    if !in_order(s, i, epoch, first, next) {
+    if !in_order(s, i, epoch) {
         return false;
     }
-    runs_on(s, i, epoch, first, next)
+    runs_on(s, i, first, next)
 }
 
 // Whether the first n records are in layout and in shape, and if so the index over their names.

@@ -12,6 +12,7 @@ use Rattle.record.specs.Places.{Stands}
 use Rattle.words.proofs.Slices.{bytewise}
 use Rattle.table.specs.Index.{Indexed}
 use Rattle.table.proofs.Formed.{formed, formed-stands}
+use Rattle.table.proofs.Walk.{stands-more}
 use Rattle.table.proofs.Shapes.{Passed, passed-none, passed-more, form-fails, rule-fails, all-pass}
 use Rattle.table.proofs.follow.all_follow.Statement.{statement}
 use Rattle.table.proofs.follow.all_follow.Tie as tie
@@ -60,7 +61,7 @@ does-follow-requires : tie.Need-does-follow-requires Inv-loop μ-loop
 does-follow-requires c κs =
     let here = c .before .before in
     let at = here .before .before .before in
-    record { index = at .loop .inv .1; shape = at .loop .inv .2 .shape; here = form here .1 }
+    (record { shape = at .loop .inv .2 .shape; stands = stands-more (at .loop .inv .1) (form here .1) }, at .loop .inv .1)
 
 returns-2 : tie.Need-returns-2 Inv-loop μ-loop
 returns-2 c =

@@ -14,6 +14,10 @@ use Rattle.table.proofs.Own.{follows-none, follows-last}
 use Rattle.table.proofs.follow.runs_on.Statement.{statement}
 use Rattle.table.proofs.follow.runs_on.Tie as tie
 
+-- the record stands
+here : (c : tie.After-shared-slice-known3) → let a = c .before .before .before .args in Stands (a .s .now) (a .i)
+here c = c .before .before .before .pre .1 .stands _ (omega arith)
+
 -- what was found is the last record of the name
 last-is : (c : tie.After-last-of) → let a = c .before .before .before .before .before .before .args in
     c .last-of .result ≡ lastWhere (named (a .s .now) (recordAt (a .s .now) (a .i) .name)) (a .i)
@@ -27,7 +31,7 @@ returns c =
     let a = found .before .before .before .before .before .before .args in
     let s = a .s .now in
     ap (λ v. eqb v 1) (found .before .before .version-at .ensures)
-    ∙ sym (follows-none s (a .i) (a .epoch) (recordAt s (a .i)) (sym (last-is found) ∙ omega arith))
+    ∙ sym (follows-none s (a .i) (recordAt s (a .i)) (sym (last-is found) ∙ omega arith))
 
 -- the last record stands
 stands : (c : tie.Else1) → let a = c .before .before .before .before .before .before .before in Stands (a .args .s .now) (c .before .last-of .result - 1)
@@ -35,7 +39,7 @@ stands c =
     let found = c .before in
     let a = found .before .before .before .before .before .before in
     let s = a .args .s .now in
-    a .pre .index .stands _ (omega (arith, last-is found, last-most (named s (recordAt s (a .args .i) .name)) (a .args .i)))
+    a .pre .1 .stands _ (omega (arith, last-is found, last-most (named s (recordAt s (a .args .i) .name)) (a .args .i)))
 
 -- so its version and its epoch decide
 decides : (c : tie.Else1) → let a = c .before .before .before .before .before .before .before .args in
@@ -47,7 +51,7 @@ decides c =
     let a = found .before .before .before .before .before .before in
     let s = a .args .s .now in
     let e : found .last-of .result ≡ suc (found .last-of .result - 1) = omega arith in
-    follows-last s (a .args .i) (a .args .epoch) (recordAt s (a .args .i)) (a .pre .shape) (found .last-of .result - 1) (sym (last-is found) ∙ e)
+    follows-last s (a .args .i) (recordAt s (a .args .i)) (a .pre .0) (a .pre .1 .shape) (found .last-of .result - 1) (sym (last-is found) ∙ e)
 
 -- the two versions that are compared
 versions : (c : tie.After-version-at2) → let a = c .before .before .before .before .before .before .before .before .args in
@@ -78,10 +82,10 @@ pub runs-on-spec : {M : Type 1} → statement M
 runs-on-spec =
     tie.close
     (tie.spec
-    (λ c κs. search needs)
+    (λ c κs. here c)
     (λ c. search needs)
-    (λ c κs. search needs)
-    (λ c κs. search needs)
+    (λ c κs. here (c .before))
+    (λ c κs. c .before .before .before .before .before .pre .2)
     returns
     (λ c. search needs)
     (λ c κs. stands c)
@@ -90,5 +94,5 @@ runs-on-spec =
     returns-2
     (λ c. search needs)
     (λ c κs. stands (c .before .before))
-    (λ c κs. search needs)
+    (λ c κs. here (c .before .before .before .before .before .before .before))
     returns-3)
