@@ -33,7 +33,9 @@ pub mod AuditComplete
 pub mod Pasted
 pub mod Shape
 pub mod Kept
+pub mod Success
 pub mod Published
+pub mod Unread
 pub mod Demand2
 pub mod Arrow
 pub mod Rows
