@@ -36,6 +36,8 @@ pub mod Kept
 pub mod Success
 pub mod Published
 pub mod Unread
+pub mod Changes
+pub mod HeadChain
 pub mod Demand2
 pub mod Arrow
 pub mod Rows
