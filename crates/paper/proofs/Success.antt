@@ -31,6 +31,11 @@ use Rattle.paper.proofs.Fit.{epoch-fit}
 use Rattle.paper.proofs.Pasted.{part-at}
 use Rattle.paper.proofs.Kept.{records-length}
 
+-- updates that were read fit
+pub updates-fit : (batch : Bytes) → Bytewise batch → (us : List Update) (r : Bytes) → parse (times (length batch / updateSize) updateField) batch ≡ got us r → All (updateField .Fits) us
+unfolding times
+updates-fit batch b us r e = bytes-parse (times-lawful (length batch / updateSize) update-lawful) batch us r b e .0 .1
+
 module _ (lab : Labelling) (records heads : Bytes) (state : State) where
   -- ---- a success or a refusal
 
@@ -70,7 +75,7 @@ module _ (lab : Labelling) (records heads : Bytes) (state : State) where
       reading w (got us []) o q = tabled w us o (counted records (state .count)) refl q
       reading w (got us (x ∷ r)) o q = absurd (whole-behind (times (length batch / updateSize) updateField .read batch) us x r o)
 
-  -- a refusal is no success, and a success no refusal
+  -- a refusal is no success
   no-success : (n : ℕ) (s : State) (x : Published) → x ≡ unpublished lab records heads state n → x .answer ≡ P.Published s → ⊥
   no-success n s x q e =
       let a : P.Refused n (record { count = state .count; epoch = state .epoch }) ≡ P.Published s = ap (λ y. y .answer) (sym q) ∙ e in
@@ -132,11 +137,6 @@ module _ (lab : Labelling) (records heads : Bytes) (state : State) where
         let z : length (timesBytes (recordField .bytes) more) ≡ length us * recordSize = records-length more more-fit ∙ ap (λ n. n * recordSize) n in
         let d = sha256-length (headString (headOf lab heads (suc (state .epoch)) (rs ++ more))) in
         record { fit = more-fit; count = n; size = z; records-room = omega (arith, full-room); head-size = d; heads-room = omega (arith, full-slot) }
-
-  -- updates that were read fit
-  pub updates-fit : (batch : Bytes) → Bytewise batch → (us : List Update) (r : Bytes) → parse (times (length batch / updateSize) updateField) batch ≡ got us r → All (updateField .Fits) us
-  unfolding times
-  updates-fit batch b us r e = bytes-parse (times-lawful (length batch / updateSize) update-lawful) batch us r b e .0 .1
 
   module _ (batch : Bytes) (bytes : Bytewise batch) (rs : List Record) (x : Success batch rs) where
     pub placed : Placed rs (x .us)

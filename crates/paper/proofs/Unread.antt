@@ -69,17 +69,13 @@ module _ (lab : Labelling) (state : State) (records heads records′ heads′ : 
 
   -- ---- the same is written
 
-  abbrev Sizes : PublishAnswer → Bytes → Bytes → Type 0
-  Sizes answer more head = (next : State) → answer ≡ P.Published next → (state .count * recordSize + length more ≡ next .count * recordSize) × (length head ≡ wide)
-
   abbrev Same : Published → Published → Type 0
-  Same x y = (answer : PublishAnswer) × (more : Bytes) × (head : Bytes) × Sizes answer more head
-      × (x ≡ publishLeaves state answer more head records heads) × (y ≡ publishLeaves state answer more head records′ heads′)
+  Same = SamePublished state records heads records′ heads′
 
   refused : (n : ℕ) → Same (unpublished lab records heads state n) (unpublished lab records′ heads′ state n)
-  refused n = (P.Refused n state, [], [], no-success, refl, refl)
+  refused n = record { answer = P.Refused n state; more = []; head = []; size = λ next e. no-success next e; one-left = refl; other-left = refl }
     where
-      no-success : Sizes (P.Refused n state) [] []
+      no-success : {A : Type 0} (next : State) → P.Refused n state ≡ P.Published next → A
       no-success next e = let z : _≡_ {A = ℕ} 0 1 = cc in absurd (omega arith)
 
   -- the head's string has no other part of the head table than the current head
@@ -93,7 +89,14 @@ module _ (lab : Labelling) (state : State) (records heads records′ heads′ : 
   unfolding headLies
   appended-same rs us f w h =
       let l : suc (state .epoch) * wide ≤ length heads = leb-true _ _ (and-left _ (inShape lab (state .epoch) [] rs) (h .0)) in
-      (P.Published next, bytes, headDigest lab heads (suc (state .epoch)) (rs ++ more), sizes, refl, ap (λ d. publishLeaves state (P.Published next) bytes d records′ heads′) (head-same (rs ++ more) l))
+      record {
+        answer = P.Published next;
+        more = bytes;
+        head = headDigest lab heads (suc (state .epoch)) (rs ++ more);
+        size = sizes;
+        one-left = refl;
+        other-left = ap (λ d. publishLeaves state (P.Published next) bytes d records′ heads′) (head-same (rs ++ more) l);
+      }
     where
       more : List Record
       more = added lab state rs us
@@ -104,7 +107,7 @@ module _ (lab : Labelling) (state : State) (records heads records′ heads′ : 
       next : State
       next = record { count = state .count + length more; epoch = suc (state .epoch) }
 
-      sizes : Sizes (P.Published next) bytes (headDigest lab heads (suc (state .epoch)) (rs ++ more))
+      sizes : (s : State) → P.Published next ≡ P.Published s → (state .count * recordSize + length bytes ≡ s .count * recordSize) × (length (headDigest lab heads (suc (state .epoch)) (rs ++ more)) ≡ wide)
       sizes s e =
           let p = tested-placed lab records heads state rs us f w h in
           let q : next .count ≡ s .count = cc in
@@ -126,22 +129,20 @@ module _ (lab : Labelling) (state : State) (records heads records′ heads′ : 
       (table-same us (f us r refl) w (counted records (state .count)))
 
   -- "Records past the count are not read." "A previous head is read from the head table, and no other head is."
-  pub publish-unread : (batch : Bytes) → Bytewise batch → SamePublished lab state batch records heads records′ heads′
+  pub publish-unread : (batch : Bytes) → Bytewise batch → SamePublished state records heads records′ heads′ (publish lab records heads state batch) (publish lab records′ heads′ state batch)
   unfolding publish
   publish-unread batch b =
       let m = parse (times (length batch / updateSize) updateField) batch in
       let ts = test INPUT (recordsWithin records && (headsWithin heads && batchWithin batch)) ∷ [] in
-      let (answer, more, head, size, one, other) = subst
+      subst
       (λ t. Same (publish lab records heads state batch) (verdict (unpublished lab records′ heads′ state) (publishBatch lab records′ heads′ state m) (test INPUT t ∷ []))) (input-same batch)
-      (verdict-alike Same _ _ _ _ ts refused
-      (λ h. batch-same m (λ us r e. updates-fit lab records heads state batch b us r e) (and-left _ _ (and-right (recordsWithin records) _ (h .0))))) in
-      record { answer = answer; more = more; head = head; size = size; one = one; other = other }
+      (verdict-alike Same _ _ _ _ ts refused (λ h. batch-same m (updates-fit batch b) (and-left _ _ (and-right (recordsWithin records) _ (h .0)))))
 
   -- in particular the answers are the same
   pub answer-unread : (batch : Bytes) → Bytewise batch → publish lab records heads state batch .answer ≡ publish lab records′ heads′ state batch .answer
   answer-unread batch b =
       let x = publish-unread batch b in
-      ap (λ y. y .answer) (x .one) ∙ told (x .answer) (x .more) (x .head) ∙ ap (λ y. y .answer) (sym (x .other))
+      ap (λ y. y .answer) (x .one-left) ∙ told (x .answer) (x .more) (x .head) ∙ ap (λ y. y .answer) (sym (x .other-left))
     where
       told : (a : PublishAnswer) (more head : Bytes) → publishLeaves state a more head records heads .answer ≡ publishLeaves state a more head records′ heads′ .answer
       told (P.Published next) more head = refl

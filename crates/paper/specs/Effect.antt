@@ -38,16 +38,17 @@ publishLeaves state (P.Published next) more head records heads = record {
 }
 publishLeaves state (P.Refused n given) more head records heads = record { answer = P.Refused n given; records = records; heads = heads }
 
--- publishing this batch gives one answer and writes the same bytes, in the one pair of tables and in the other: as many records as the
--- count grows by, and one head
-pub record SamePublished (lab : Labelling) (state : State) (batch records heads records′ heads′ : Bytes) : Type 0 where
+-- what publishing leaves in the one pair of tables and in the other is one answer and the same bytes written: on success as many records
+-- as the count grows by, and one head
+pub record SamePublished (state : State) (records heads records′ heads′ : Bytes) (one other : Published) : Type 0 where
   pub answer : PublishAnswer
   pub more : Bytes
   pub head : Bytes
   pub size : (next : State) → answer ≡ P.Published next → (state .count * recordSize + length more ≡ next .count * recordSize) × (length head ≡ wide)
-  pub one : publish lab records heads state batch ≡ publishLeaves state answer more head records heads
-  pub other : publish lab records′ heads′ state batch ≡ publishLeaves state answer more head records′ heads′
+  pub one-left : one ≡ publishLeaves state answer more head records heads
+  pub other-left : other ≡ publishLeaves state answer more head records′ heads′
 
+-- what start leaves in this head table where it gives this answer and writes this head
 abbrev pub startLeaves : StartAnswer → Bytes → Bytes → Started
 startLeaves (S.Started state) head heads = record { answer = S.Started state; heads = pasted heads 0 head }
 startLeaves (S.Refused n) head heads = record { answer = S.Refused n; heads = heads }
