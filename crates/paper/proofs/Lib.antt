@@ -33,7 +33,11 @@ pub mod AuditComplete
 pub mod Pasted
 pub mod Shape
 pub mod Kept
+pub mod Success
 pub mod Published
+pub mod Unread
+pub mod Changes
+pub mod HeadChain
 pub mod Demand2
 pub mod Arrow
 pub mod Rows

@@ -76,3 +76,11 @@ module _ {A : Type 0} (refuse : ℕ → A) (answer : A) where
       none n f q =
           let z : n ≡ 0 = sym (back n) ∙ ap number (sym q) ∙ e in
           omega (arith, f .number, all-in _ ts h (f .failed) (subst (λ l. f .failed ∈ l) (f .split) (in-right (f .failed) (f .passed) _ (inl refl))))
+
+-- two verdicts over the same tests are alike where their refusals are, and their answers if all tests hold
+pub verdict-alike : {A B : Type 0} (R : A → B → Type 0) (f : ℕ → A) (a : A) (g : ℕ → B) (b : B) (ts : List Test) → ((n : ℕ) → R (f n) (g n)) → (Hold ts → R a b)
+    → R (verdict f a ts) (verdict g b ts)
+verdict-alike R f a g b ts r h = ⊎-elim
+    (λ (k, q). subst (λ x. R x (verdict g b ts)) (sym q) (subst (R a) (sym (verdict-all g b ts k)) (h k)))
+    (λ (n, k, q). subst (λ x. R x (verdict g b ts)) (sym q) (subst (R (f n)) (sym (verdict-first g b ts n k)) (r n)))
+    (verdict-cases f a ts)

@@ -18,6 +18,8 @@ pub mod Table
 pub mod Publish
 pub mod Write
 pub mod Left
+pub mod HeadChain
+pub mod Effect
 pub mod Level
 pub mod Answer
 pub mod Program
