@@ -4,6 +4,7 @@ lies again, so that each gets past head and root to a single rule. The answers a
 import random
 
 import checker
+from answer import Refused, line
 from directory import ZERO, Directory, Tree, be, bits, label, pack, sha
 
 ANY = random.Random(16)  # the same cases each time
@@ -175,7 +176,7 @@ def crafted(lengths, end, raw=None):
     path = be(2, len(steps)) + b"".join(be(2, n) + d for n, d in steps) + end
     try:
         root = checker.path_root(label(1, 1, NAME), *checker.read_path(checker.Reader(path)))
-    except checker.Refused:
+    except Refused:
         root = ZERO
     head = be(4, 9) + some(32) + root + some(32)
     return sha(b"\x03" + head), NAME, b"VKD" + be(2, 1) + b"\x01" + head + be(2, 0) + path
@@ -303,7 +304,7 @@ def cases():
     }
     for call, given in groups.items():
         for fields in given:
-            yield call, list(fields), checker.line(getattr(checker, call), *fields)
+            yield call, list(fields), line(getattr(checker, call), *fields)
     for head, name, proof in [*damaged(lookups[3], 9), *lookup_lies()]:
         stdin = head + be(1, len(name)) + name + proof
         yield "program", [stdin], checker.program(stdin)
@@ -319,4 +320,4 @@ def cases():
 def longest():
     """A history of 1,023 versions, and a lookup of the last."""
     x = owned(range(1, 1024), 1500)
-    return [(call, list(f), checker.line(getattr(checker, call), *f)) for call, f in (("check_history", x.history(1023)), ("check_lookup", x.lookup(1023)))]
+    return [(call, list(f), line(getattr(checker, call), *f)) for call, f in (("check_history", x.history(1023)), ("check_lookup", x.lookup(1023)))]

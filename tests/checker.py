@@ -2,19 +2,8 @@
 
 Each checker gives the values of an accepted proof, in document 01's order, or raises Refused with the number.
 """
-from directory import ZERO, be, bits, label, pack, sha
-
-INPUT, FORM, HEAD, ROOT, RULE = 1, 2, 3, 4, 5
-
-
-class Refused(Exception):
-    def __init__(self, number):
-        self.number = number
-
-
-def need(truth, number):
-    if not truth:
-        raise Refused(number)
+from answer import FORM, HEAD, INPUT, ROOT, RULE, line, need
+from directory import ZERO, be, bits, is_name, label, pack, sha
 
 
 class Reader:
@@ -129,7 +118,7 @@ class Shown:
 
 def start(d, name, proof, kind):
     need(len(d) == 32, INPUT)
-    need(1 <= len(name) <= 64 and all(0x21 <= x <= 0x7E for x in name), INPUT)
+    need(is_name(name), INPUT)
     r = Reader(proof)
     read_header(r, kind)
     return r, read_head(r), r.number(2, 0, 1023)
@@ -248,14 +237,6 @@ def check_audit(d, e, proof):
     need(new[0] == old[0] + 1 and new[1] == d, RULE)
     digests = 2 + sum(check_list(records, tree, old, new) for records, tree in zip(lists, ("all", "old")))
     return old[0], new[0], digests
-
-
-def line(check, *given):
-    """A checker's answer as the driver writes it."""
-    try:
-        return " ".join(str(x) for x in check(*given))
-    except Refused as x:
-        return f"refused {x.number}"
 
 
 def program(stdin):

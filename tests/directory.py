@@ -4,6 +4,7 @@
 It publishes, and writes lookup, history and audit proofs. crates/worked is made with it (tests/worked_promise.py).
 """
 import hashlib
+from os.path import commonprefix
 
 
 def sha(b):
@@ -15,6 +16,10 @@ def be(n, x):
 
 
 ZERO = bytes(32)
+
+
+def is_name(b):
+    return 1 <= len(b) <= 64 and all(0x21 <= x <= 0x7E for x in b)
 
 
 def label(kind, number, name):
@@ -29,23 +34,16 @@ def pack(p):
     return int(p.ljust(256, "0"), 2).to_bytes(32, "big")
 
 
-def common(a, b):
-    n = 0
-    while n < len(a) and n < len(b) and a[n] == b[n]:
-        n += 1
-    return a[:n]
-
-
 class Tree:
     """The tree over leaves (label, commitment, epoch)."""
 
     def __init__(self, leaves):
-        self.root = self.inner("", leaves)
+        self.root = self.inner("", [(bits(x[0]), x) for x in leaves])
 
     def inner(self, prefix, leaves):
         n = len(prefix)
-        left = self.below([x for x in leaves if bits(x[0])[n] == "0"])
-        right = self.below([x for x in leaves if bits(x[0])[n] == "1"])
+        left = self.below([x for x in leaves if x[0][n] == "0"])
+        right = self.below([x for x in leaves if x[0][n] == "1"])
         string = b"\x01" + be(2, n) + pack(prefix) + left["digest"] + right["digest"]
         return {"kind": "inner", "prefix": prefix, "left": left, "right": right, "digest": sha(string)}
 
@@ -53,12 +51,9 @@ class Tree:
         if not leaves:
             return {"kind": "nothing", "digest": sha(b"\x02")}
         if len(leaves) == 1:
-            m, c, e = leaves[0]
-            return {"kind": "leaf", "leaf": leaves[0], "digest": sha(b"\x00" + m + c + be(4, e))}
-        prefix = bits(leaves[0][0])
-        for x in leaves[1:]:
-            prefix = common(prefix, bits(x[0]))
-        return self.inner(prefix, leaves)
+            m, c, e = leaves[0][1]
+            return {"kind": "leaf", "leaf": leaves[0][1], "digest": sha(b"\x00" + m + c + be(4, e))}
+        return self.inner(commonprefix([b for b, _ in leaves]), leaves)
 
     def path(self, m):
         steps, node, mine = [], self.root, bits(m)
@@ -100,9 +95,28 @@ class Tree:
         return walk(self.root["left"]) + walk(self.root["right"])
 
 
+def leaves_at(t, records):
+    """The leaves of *all* and of *old* at epoch t; a record is (name, version, epoch, key, opening)."""
+    every, old = [], []
+    for name, v, e, key, opening in records:
+        if e > t:
+            continue
+        every.append((label(1, v, name), sha(b"\x05" + opening + key), e))
+        if v & (v - 1) == 0:
+            every.append((label(2, v.bit_length() - 1, name), ZERO, e))
+        if v > 1:
+            old.append((label(1, v - 1, name), ZERO, e))
+    return every, old
+
+
+def head_opening(t, previous, every, old):
+    """A head's 100 bytes after its 0x03, from both trees."""
+    return be(4, t) + previous + every.root["digest"] + old.root["digest"]
+
+
 class Directory:
     def __init__(self):
-        self.records = []  # (name, version, epoch, key, opening)
+        self.records = []  # as leaves_at takes them
         self.heads = [sha(b"\x03" + self.head(0))]
 
     def publish(self, batch):
@@ -113,21 +127,11 @@ class Directory:
         self.heads.append(sha(b"\x03" + self.head(epoch)))
 
     def trees(self, t):
-        every, old = [], []
-        for name, v, e, key, opening in self.records:
-            if e > t:
-                continue
-            every.append((label(1, v, name), sha(b"\x05" + opening + key), e))
-            if v & (v - 1) == 0:
-                every.append((label(2, v.bit_length() - 1, name), ZERO, e))
-            if v > 1:
-                old.append((label(1, v - 1, name), ZERO, e))
+        every, old = leaves_at(t, self.records)
         return Tree(every), Tree(old)
 
     def head(self, t):
-        every, old = self.trees(t)
-        previous = self.heads[t - 1] if t else ZERO
-        return be(4, t) + previous + every.root["digest"] + old.root["digest"]
+        return head_opening(t, self.heads[t - 1] if t else ZERO, *self.trees(t))
 
     def own(self, name, t):
         return [r for r in self.records if r[0] == name and r[2] <= t]

@@ -17,7 +17,14 @@ CALLS = {
     "check_history": (5, [BYTES, BYTES, BYTES]),
     "check_audit": (6, [BYTES, BYTES, BYTES]),
     "program": (7, [BYTES]),
+    "tree_root": (8, [BYTES]),
+    "tree_path": (9, [BYTES, BYTES, 2]),
+    "start": (10, [BYTES]),
+    "publish": (11, [BYTES, BYTES, 4, 4, BYTES]),
 }
+
+# calls that the driver program does not have yet: its sample, its vectors and its longest requests leave them out
+NOT_YET = {"tree_root", "tree_path", "start", "publish"}
 
 
 def be(n, x):
@@ -28,6 +35,12 @@ def request(number, fields):
     """A request of the call with that number."""
     body = be(1, number) + b"".join(be(4, len(f)) + f for f in fields)
     return be(4, len(body)) + body
+
+
+def call_request(call, values):
+    """A request of the call: bytes, and numbers in the width that their field has."""
+    number, kinds = CALLS[call]
+    return request(number, [x if kind == BYTES else be(kind, x) for kind, x in zip(kinds, values)])
 
 
 def command():

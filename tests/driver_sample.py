@@ -1,6 +1,6 @@
 #!/usr/bin/env python3
 """Prints crates/driver/stdin, requests readable and not, or crates/driver/stdout, the lines in answer by a second implementation: the
-project's own share of the vectors. Those of the checkers are in tests/cases.py.
+project's own share of the vectors. Those of the checkers are in tests/cases.py, those of the server's calls in tests/server_cases.py.
 
     python3 tests/driver_sample.py stdin > crates/driver/stdin
     python3 tests/driver_sample.py stdout > crates/driver/stdout
@@ -10,7 +10,8 @@ import sys
 
 sys.dont_write_bytecode = True
 import cases
-from driver import CALLS, be, request
+import server_cases
+from driver import CALLS, NOT_YET, be, call_request, request
 
 
 def first_difference(a, b):
@@ -88,7 +89,24 @@ CASES = [
     # what comes after an unreadable request is answered
     sha256_case(b"abc"),
 ]
-CASES += [(request(CALLS[call][0], fields), line) for call, fields, line in cases.cases()]
+CASES += [(call_request(call, values), line) for call, values, line in cases.cases()]
+# a field too few, a field too many, and numbers of another width
+UNREADABLE = [
+    ("tree_root", []),
+    ("tree_root", [b"", b""]),
+    ("tree_path", [b"", zero]),
+    ("tree_path", [b"", zero, be(1, 1)]),
+    ("tree_path", [b"", zero, be(4, 1)]),
+    ("tree_path", [b"", zero, be(2, 1), b""]),
+    ("start", []),
+    ("start", [zero, b""]),
+    ("publish", [b"", zero + zero, be(4, 0), be(4, 0)]),
+    ("publish", [b"", zero + zero, be(2, 0), be(4, 0), b""]),
+    ("publish", [b"", zero + zero, be(4, 0), be(8, 0), b""]),
+    ("publish", [b"", zero + zero, be(4, 0), be(4, 0), b"", b""]),
+]
+CASES += [bad(request(CALLS[call][0], fields)) for call, fields in UNREADABLE if call not in NOT_YET]
+CASES += [(call_request(call, values), line) for call, values, line in server_cases.cases(NOT_YET)]
 # the input ends within a request
 CASES.append(bad(request(1, [b"abc"])[:-1]))
 

@@ -1,13 +1,16 @@
 #!/usr/bin/env python3
-"""Puts a history of 1,023 versions, and a lookup of the last, through the driver, and compares the answers with tests/checker.py's."""
+"""Puts the longest requests through the driver, and compares the answers with the other implementation's: a history of 1,023 versions and a
+lookup of the last, and entries and tables at their bounds and past them."""
 import sys
 
 sys.dont_write_bytecode = True
 import cases
 import driver
+import server_cases
 
-CASES = cases.longest()
-got = driver.answers([driver.request(driver.CALLS[call][0], fields) for call, fields, _ in CASES])
+CASES = [*cases.longest(), *server_cases.longest(driver.NOT_YET)]
+got = driver.answers([driver.call_request(call, values) for call, values, _ in CASES])
 for (call, _, expected), line in zip(CASES, got):
-    print(f"{call}: expected {expected}, and the driver answered {line}")
+    same = "the same" if line == expected else line[:60]
+    print(f"{call}: expected {expected[:60]}, and the driver answered {same}")
 sys.exit(0 if got == [expected for _, _, expected in CASES] else 1)

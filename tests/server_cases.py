@@ -1,0 +1,53 @@
+#!/usr/bin/env python3
+"""Requests for the server's calls with their answers: those of tests/level_cases.py and tests/publish_cases.py, answered by
+tests/server.py.
+
+    python3 tests/server_cases.py CALL > tests/vectors-own/CALL.txt
+
+prints the small examples of a call as a vector file.
+"""
+import sys
+
+sys.dont_write_bytecode = True
+import level_cases
+import publish_cases
+import server
+from answer import word
+
+HEADINGS = {
+    "tree_root": ["leaves = root", "leaves: label 32, commitment 32, epoch 4 for each, one behind the other, in any order"],
+    "tree_path": ["leaves label absent = path", "leaves as in tree_root; absent 1: the label is to be shown absent"],
+    "start": ["heads = count epoch heads_after"],
+    "publish": ["records heads count epoch batch = count epoch records_after heads_after"],
+}
+
+
+def answered(left_out, *groups):
+    for group in groups:
+        for call, values in group():
+            if call not in left_out:
+                yield call, values, server.answer(call, values)
+
+
+def cases(left_out=()):
+    """(call, values, answer) of every case but those of the calls left out."""
+    return answered(left_out, level_cases.given, publish_cases.given)
+
+
+def longest(left_out=()):
+    """The same of the largest cases."""
+    return answered(left_out, level_cases.at_bounds, publish_cases.at_bounds)
+
+
+def main():
+    if len(sys.argv) != 2 or sys.argv[1] not in HEADINGS:
+        sys.exit(__doc__)
+    first, *more = HEADINGS[sys.argv[1]]
+    for text in [first + "  (or: refused N)", *more]:
+        print("#", text)
+    for call, values, line in answered(HEADINGS.keys() - sys.argv[1:], level_cases.examples, publish_cases.examples):
+        print(*map(word, values), "=", line)
+
+
+if __name__ == "__main__":
+    main()
