@@ -1,0 +1,1 @@
+-- Laws of a label's path.
