@@ -106,6 +106,12 @@ no-size (suc zero) h = absurd (omega arith)
 no-size (suc (suc zero)) h = absurd (omega arith)
 no-size (suc (suc (suc k))) h = refl
 
+pub size-most : (k : ℕ) → endSize k ≤ 98
+size-most zero = omega arith
+size-most (suc zero) = omega arith
+size-most (suc (suc zero)) = omega arith
+size-most (suc (suc (suc k))) = omega arith
+
 pub path-size : (L : Bits) (t : Tree) → pathField .Fits (way L t) → length (pathField .bytes (way L t)) ≡ 3 + length (waySteps L t) * 34 + endSize (endKind (wayEnd L t))
 unfolding wayBytes
 path-size L t f =

@@ -14,14 +14,14 @@ use Rattle.paper.specs.Bits.{Bits, bitsOf}
 use Rattle.paper.specs.Strings.{Node, leaf, inner, nothing}
 use Rattle.paper.specs.Tree.{key, root}
 use Rattle.paper.specs.Path as P
-use Rattle.paper.specs.Path.{End, this, other, off, none, sameBits, wayEnd, waySteps, lastLength}
-use Rattle.paper.specs.Fields.{endKind}
+use Rattle.paper.specs.Path.{End, this, other, off, none, sameBits, wayEnd, waySteps, way, lastLength}
+use Rattle.paper.specs.Fields.{endKind, pathField}
 use Rattle.paper.specs.Table.{holds}
 use Rattle.paper.specs.Level.{leavesIn}
 use Rattle.paper.proofs.Lists.{true-or-false, not-both, all-in, all-take, all-drop}
 use Rattle.paper.proofs.Bytes.{bitsOf-length, number-lt}
 use Rattle.paper.proofs.Walk.{sameBits-eq}
-use Rattle.paper.proofs.Honest.{LeafSized, LeafSet, held-not, way-present, way-absent}
+use Rattle.paper.proofs.Honest.{LeafSized, LeafSet, held-not, way-present, way-absent, way-fits}
 use Rattle.bit_order.proofs.Sides.{ordered-free}
 use Rattle.words.proofs.Pasted.{length-part}
 use Rattle.tree.specs.Stored.{Sorted}
@@ -40,7 +40,7 @@ leaves-sized (suc n) s h w =
       leaves-sized n (drop 68 s) (omega (arith, length-drop 68 s)) (all-drop _ 68 s w),
     )
 
-pub leaf-set : (n : ℕ) (s : Bytes) → Sorted n s → Bytewise s → LeafSet (leavesIn n s)
+leaf-set : (n : ℕ) (s : Bytes) → Sorted n s → Bytewise s → LeafSet (leavesIn n s)
 leaf-set n s h w = record {
   free = ordered-free (leavesIn n s) (rising-ordered (leavesIn n s) (h .rises));
   sized = leaves-sized n s (omega (arith, h .size)) w;
@@ -64,7 +64,7 @@ absent-kind L k (other m c e) h = refl
 absent-kind L k (off p l r) h = refl
 absent-kind L k none h = refl
 
-pub there : (S : List Node) (L : Bits) → LeafSet S → length L ≡ 256 → eqb (endKind (wayEnd L (root S))) 0 ≡ holds L S
+there : (S : List Node) (L : Bits) → LeafSet S → length L ≡ 256 → eqb (endKind (wayEnd L (root S))) 0 ≡ holds L S
 there S L set size = ⊎-elim
     (λ e. let (x, m, q) = held L S e in found x m q (all-in LeafSized S (set .sized) x m) ∙ sym e)
     (λ e. absent-kind L (lastLength (waySteps L (root S))) (wayEnd L (root S)) (way-absent S set L size (held-not L S e)) ∙ sym e)
@@ -74,3 +74,15 @@ there S L set size = ⊎-elim
     found (leaf m c e) i q z = ap (λ x. eqb (endKind x) 0) (way-present S set L size c e (subst (λ l. leaf l c e ∈ S) q i))
     found (inner p l r) i q z = absurd z
     found nothing i q z = absurd z
+
+-- ---- by the bytes of leaves and label
+
+module _ (n : ℕ) (s label : Bytes) (h : Sorted n s) (w : Bytewise s) (size : length label ≡ 32) where
+  long : length (bitsOf label) ≡ 256
+  long = omega (arith, bitsOf-length label)
+
+  pub way-in-layout : pathField .Fits (way (bitsOf label) (root (leavesIn n s)))
+  way-in-layout = way-fits (leavesIn n s) (leaf-set n s h w) (bitsOf label) long
+
+  pub label-there : eqb (endKind (wayEnd (bitsOf label) (root (leavesIn n s)))) 0 ≡ holds (bitsOf label) (leavesIn n s)
+  label-there = there (leavesIn n s) (bitsOf label) (leaf-set n s h w) long

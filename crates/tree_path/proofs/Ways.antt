@@ -2,7 +2,7 @@
 use mathlib.Core.Path.{_≡_, refl, sym, ap, ap₂, _∙_, subst}
 use mathlib.Core.Bool.{Bool, true, false, cond}
 use mathlib.Core.List.{List, [], _∷_, _++_, append-assoc}
-use Prim.Native.Nat.{ℕ, suc, _+_, _*_, _-_, _≤_, _<_}
+use Prim.Native.Nat.{ℕ, zero, suc, _+_, _*_, _-_, _≤_, _<_}
 use native.Mathlib.Omega.{arith}
 use native.Mathlib.Numerals.{add-one}
 use lib.ListN.{length, take, drop, getD}
@@ -102,10 +102,12 @@ prefix-size s k h l = length-take-le k (bitsOf (take 32 s)) (omega (arith, bitsO
 
 -- ---- how many steps there are
 
-pub steps-few : (n from : ℕ) (s : Bytes) (L : Bits) → Sorted n s → Range from (leavesIn n s) → 1 ≤ n → 1 ≤ from → length L ≡ 256 → length (waySteps L (build 256 (leavesIn n s))) ≤ 255
-steps-few n from s L w r h l size =
-    let S = leavesIn n s in
-    let ne : ¬ (S ≡ []) = λ e. omega (arith, leaves-length n s, ap length e) in
-    let short = in-all (λ y. length (key y) ≤ 256) S (λ y m. omega (arith, all-in (λ y. length (key y) ≡ 256) S (leaves-long n s (omega (arith, w .size))) y m)) in
+pub steps-few : (n from : ℕ) (s : Bytes) (L : Bits) → Sorted n s → Range from (leavesIn n s) → 1 ≤ from → length L ≡ 256 → length (waySteps L (build 256 (leavesIn n s))) ≤ 255
+unfolding waySteps
+steps-few zero from s L w r l size = rw (bare 0 s refl) (omega arith)
+steps-few (suc n) from s L w r l size =
+    let S = leavesIn (suc n) s in
+    let ne : ¬ (S ≡ []) = λ e. omega (arith, leaves-length (suc n) s, ap length e) in
+    let short = in-all (λ y. length (key y) ≤ 256) S (λ y m. omega (arith, all-in (λ y. length (key y) ≡ 256) S (leaves-long (suc n) s (omega (arith, w .size))) y m)) in
     let g = build-grown 256 256 (r .shared) S (ordered-free S (rising-ordered S (w .rises))) short (omega arith) (r .shares) (omega (arith, r .size)) ne in
     omega (arith, r .size, down-count (grown-length (r .shared) (build 256 S) g) (way-down L size (r .shared) (build 256 S) g))

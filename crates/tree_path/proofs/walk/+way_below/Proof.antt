@@ -127,7 +127,7 @@ module _ (t : ℕ) where
       let h = cut w in
       let m = w .fork-of .result .left in
       let k = w .fork-of .result .length in
-      omega (arith, ap (λ v. v .steps) (c .way-below .ensures), steps-few (a .n - m) (k + 1) (behind m (a .s .now)) (bitsOf (a .label .now)) (behind-sorted (a .n) (a .s .now) (start w .pre .1 .2) m (omega (arith, h .less))) (h .right) (omega (arith, h .less)) (omega arith) (long w))
+      omega (arith, ap (λ v. v .steps) (c .way-below .ensures), steps-few (a .n - m) (k + 1) (behind m (a .s .now)) (bitsOf (a .label .now)) (behind-sorted (a .n) (a .s .now) (start w .pre .1 .2) m (omega (arith, h .less))) (h .right) (omega arith) (long w))
 
   returns-3 : way-below-lts.Need-returns-3 claims Pre way-below.Post
   returns-3 c =
@@ -161,7 +161,7 @@ module _ (t : ℕ) where
       let h = cut w in
       let m = w .fork-of .result .left in
       let k = w .fork-of .result .length in
-      omega (arith, ap (λ v. v .steps) (c .way-below2 .ensures), steps-few m (k + 1) (before m (a .s .now)) (bitsOf (a .label .now)) (before-sorted (a .n) (a .s .now) (start w .pre .1 .2) m (omega (arith, h .less))) (h .left) (h .least) (omega arith) (long w))
+      omega (arith, ap (λ v. v .steps) (c .way-below2 .ensures), steps-few m (k + 1) (before m (a .s .now)) (bitsOf (a .label .now)) (before-sorted (a .n) (a .s .now) (start w .pre .1 .2) m (omega (arith, h .less))) (h .left) (omega arith) (long w))
 
   returns-4 : way-below-lts.Need-returns-4 claims Pre way-below.Post
   returns-4 c =

@@ -1,34 +1,54 @@
+-- `tree_path::path_length`: a step has 34 bytes, and an end as many as its kind says.
 use borrow.Author.Needs.{needs}
+use native.Mathlib.Omega.{arith}
+use mathlib.Core.Path.{_≡_, sym, ap, _∙_}
+use Prim.Native.Nat.{_+_, _*_, _≤_}
+use Rattle.paper.specs.Bits.{bitsOf}
+use Rattle.paper.specs.Tree.{root}
+use Rattle.paper.specs.Path.{way}
+use Rattle.paper.specs.Fields.{pathField}
+use Rattle.paper.specs.Level.{leavesIn}
+use Rattle.paper.proofs.Fits.{path-fits}
+use Rattle.tree.proofs.Rising.{all-at}
+use Rattle.tree_path.specs.Written.{endSize}
+use Rattle.tree_path.proofs.Ends.{size-most, path-size}
+use Rattle.tree_path.proofs.There.{way-in-layout}
 use Rattle.tree_path.proofs.walk.path_length.Statement.{statement}
 use Rattle.tree_path.proofs.walk.path_length.Tie as tie
-use Rattle.tree_path.proofs.walk.path_length.Reads as reads
-use Rattle.tree_path.proofs.walk.path_length.Lts as lts
-use Rattle.tree_path.proofs.walk.end_size.Reads as end-size-reads
-use Rattle.tree_path.proofs.walk.way_of.Reads as way-of-reads
 
--- src/walk.rt:126:9
+abbrev start : tie.After-way-of → tie.Start
+start c = c .before .before .before
+
+fits : (c : tie.After-way-of) → pathField .Fits (way (bitsOf (start c .args .label .now)) (root (leavesIn (start c .args .n) (start c .args .s .now))))
+fits c =
+    let a = start c .args in
+    way-in-layout (a .n) (a .s .now) (a .label .now) (start c .pre .0) (all-at _ (a .s .now) 0 (λ i h. c .before .before .shared-slice-known .given i .fits)) (start c .pre .1)
+
+few : (c : tie.After-way-of) → c .way-of .result .steps ≤ 256
+few c = omega (arith, ap (λ v. v .steps) (c .way-of .ensures), path-fits _ (fits c) .most)
+
 way-of-requires : tie.Need-way-of-requires
 way-of-requires c κs = search needs
 
--- src/walk.rt:127:9
 mul-result : tie.Need-mul-result
-mul-result c = ?
+mul-result c = omega (arith, few (c .before))
 
--- src/walk.rt:127:5
 add-result : tie.Need-add-result
-add-result c = ?
+add-result c = omega (arith, few (c .before))
 
--- src/walk.rt:127:26
 end-size-requires : tie.Need-end-size-requires
 end-size-requires c κs = search needs
 
--- src/walk.rt:127:5
 add-result-2 : tie.Need-add-result-2
-add-result-2 c = ?
+add-result-2 c = omega (arith, few (c .before .before), c .end-size .ensures, size-most (c .before .before .way-of .result .kind))
 
--- src/walk.rt:122:1
 returns : tie.Need-returns
-returns c = ?
+returns c =
+    let found = c .before .before in
+    let a = start found .args in
+    let e = found .way-of .ensures in
+    ap (λ x. 3 + found .way-of .result .steps * 34 + x) (c .end-size .ensures) ∙ (λ i. 3 + e i .steps * 34 + endSize (e i .kind))
+    ∙ sym (path-size (bitsOf (a .label .now)) (root (leavesIn (a .n) (a .s .now))) (fits found))
 
 pub path-length-spec : {M : Type 1} → statement M
 path-length-spec =

@@ -1,68 +1,95 @@
+-- `tree_path::way_of`: the root has no bits, so the label goes down on the side of its first bit.
 use borrow.Author.Needs.{needs}
+use native.Mathlib.Omega.{arith}
+use mathlib.Core.Path.{_≡_, refl, sym, ap, _∙_}
+use mathlib.Core.Bool.{true, false}
+use Prim.Native.Nat.{_-_, _*_}
+use lib.ListN.{length}
+use lib.Seq.{length-take-le}
+use Rattle.paper.specs.Bits.{bitsOf}
+use Rattle.paper.proofs.Bytes.{bitsOf-length}
+use Rattle.tree.proofs.Step.{root-range}
+use Rattle.tree.proofs.Halves.{before, behind, RootHalves, root-halves, before-sorted, behind-sorted}
+use Rattle.tree_path.proofs.Ways.{turn-way, starts-none, steps-few}
 use Rattle.tree_path.proofs.walk.way_of.Statement.{statement}
 use Rattle.tree_path.proofs.walk.way_of.Tie as tie
-use Rattle.tree_path.proofs.walk.way_of.Reads as reads
-use Rattle.tree_path.proofs.walk.way_of.Lts as lts
-use Rattle.bits.proofs.label_bit.Reads as label-bit-reads
-use Rattle.tree.proofs.split.Reads as split-reads
-use Rattle.tree_path.proofs.walk.stepped.Reads as stepped-reads
-use Rattle.tree_path.proofs.walk.way_side.Reads as way-side-reads
 
--- src/walk.rt:101:9
+abbrev start : tie.After-split → tie.Start
+start c = c .before .before .before
+
+cut : (c : tie.After-split) → RootHalves (start c .args .n) (start c .args .s .now) (c .split .result)
+cut c = root-halves (start c .args .n) (start c .args .s .now) (c .split .result) (start c .pre .0) (c .split .ensures)
+
+long : (c : tie.After-split) → length (bitsOf (start c .args .label .now)) ≡ 256
+long c = omega (arith, bitsOf-length (start c .args .label .now), start c .pre .1)
+
 split-requires : tie.Need-split-requires
-split-requires c κs = ?
+split-requires c κs = (c .before .before .pre .0, root-range _)
 
--- src/walk.rt:102:18
 mul-middle : tie.Need-mul-middle
-mul-middle c = ?
+mul-middle c = omega (arith, cut c .most, start c .pre .0 .size)
 
--- src/walk.rt:103:8
 label-bit-requires : tie.Need-label-bit-requires
 label-bit-requires c κs = search needs
 
--- src/walk.rt:104:33
 sub-way-side : tie.Need-sub-way-side
-sub-way-side c = ?
+sub-way-side c = omega (arith, cut (c .before .before) .most, start (c .before .before) .pre .0 .size)
 
--- src/walk.rt:104:33
 part-way-side-start : tie.Need-part-way-side-start
-part-way-side-start c = ?
+part-way-side-start c = omega (arith, cut (c .before .before) .most, start (c .before .before) .pre .0 .size)
 
--- src/walk.rt:104:33
 part-way-side-end : tie.Need-part-way-side-end
 part-way-side-end c = search needs
 
--- src/walk.rt:104:47
 sub-way-side-2 : tie.Need-sub-way-side-2
-sub-way-side-2 c = ?
+sub-way-side-2 c = omega (arith, cut (c .before .before .before) .most, start (c .before .before .before) .pre .0 .size)
 
--- src/walk.rt:104:24
 way-side-requires : tie.Need-way-side-requires
-way-side-requires c κs = ?
+way-side-requires c κs =
+    let w = c .before .before .before in
+    let a = start w .args in
+    (behind-sorted (a .n) (a .s .now) (start w .pre .0) (w .split .result) (cut w .most), cut w .right, start w .pre .1)
 
--- src/walk.rt:104:9
 stepped-requires : tie.Need-stepped-requires
-stepped-requires c κs = ?
+stepped-requires c κs =
+    let w = c .before .before .before .before in
+    let a = start w .args in
+    let m = w .split .result in
+    omega (arith, ap (λ v. v .steps) (c .way-side .ensures), steps-few (a .n - m) 1 (behind m (a .s .now)) (bitsOf (a .label .now)) (behind-sorted (a .n) (a .s .now) (start w .pre .0) m (cut w .most)) (cut w .right) (omega arith) (long w))
 
--- src/walk.rt:104:9
 returns : tie.Need-returns
-returns c = ?
+returns c =
+    let found = c .before in
+    let turned = found .before .before in
+    let w = turned .before .before in
+    let L = bitsOf (start w .args .label .now) in
+    let bit = sym (turned .before .label-bit .ensures) ∙ turned .if1 .taken in
+    c .stepped .ensures ∙ turn-way L _ _ _ _ (cut w .tree) 0 refl (starts-none L) true bit (found .way-side .result) (found .way-side .ensures)
 
--- src/walk.rt:106:22
 slice-aggregate-way-side : tie.Need-slice-aggregate-way-side
-slice-aggregate-way-side c = ?
+slice-aggregate-way-side c = let w = c .before .before .before in sym (length-take-le (w .split .result * 68) (start w .args .s .now) (omega (arith, cut (c .before .before .before) .most, start (c .before .before .before) .pre .0 .size)))
 
--- src/walk.rt:106:13
 way-side-requires-2 : tie.Need-way-side-requires-2
-way-side-requires-2 c κs = ?
+way-side-requires-2 c κs =
+    let w = c .before .before .before in
+    let a = start w .args in
+    (before-sorted (a .n) (a .s .now) (start w .pre .0) (w .split .result) (cut w .most), cut w .left, start w .pre .1)
 
--- src/walk.rt:106:5
 stepped-requires-2 : tie.Need-stepped-requires-2
-stepped-requires-2 c κs = ?
+stepped-requires-2 c κs =
+    let w = c .before .before .before .before in
+    let a = start w .args in
+    let m = w .split .result in
+    omega (arith, ap (λ v. v .steps) (c .way-side2 .ensures), steps-few m 1 (before m (a .s .now)) (bitsOf (a .label .now)) (before-sorted (a .n) (a .s .now) (start w .pre .0) m (cut w .most)) (cut w .left) (omega arith) (long w))
 
--- src/walk.rt:97:1
 returns-2 : tie.Need-returns-2
-returns-2 c = ?
+returns-2 c =
+    let found = c .before in
+    let turned = found .before .before in
+    let w = turned .before .before in
+    let L = bitsOf (start w .args .label .now) in
+    let bit = sym (turned .before .label-bit .ensures) ∙ turned .if1 .left in
+    c .stepped2 .ensures ∙ turn-way L _ _ _ _ (cut w .tree) 0 refl (starts-none L) false bit (found .way-side2 .result) (found .way-side2 .ensures)
 
 pub way-of-spec : {M : Type 1} → statement M
 way-of-spec =

@@ -1,19 +1,21 @@
+-- `tree_path::way_side`: nothing, or the way below the root.
 use borrow.Author.Needs.{needs}
+use native.Mathlib.Omega.{arith}
+use mathlib.Core.Path.{sym, ap, _∙_}
+use Rattle.paper.specs.Bits.{bitsOf}
+use Rattle.tree_path.specs.Written.{wayOf}
+use Rattle.tree_path.proofs.Ways.{bare, none-way}
 use Rattle.tree_path.proofs.walk.way_side.Statement.{statement}
 use Rattle.tree_path.proofs.walk.way_side.Tie as tie
-use Rattle.tree_path.proofs.walk.way_side.Reads as reads
-use Rattle.tree_path.proofs.walk.way_side.Lts as lts
-use Rattle.tree_path.proofs.walk.way_below.Reads as way-below-reads
 
--- src/walk.rt:91:9
 returns : tie.Need-returns
-returns c = ?
+returns c =
+    let a = c .before .before .before .args in
+    sym (ap (wayOf (bitsOf (a .label .now))) (bare (a .n) (a .s .now) (c .if1 .taken)) ∙ none-way (bitsOf (a .label .now)))
 
--- src/walk.rt:93:5
 way-below-requires : tie.Need-way-below-requires
-way-below-requires c κs = search needs
+way-below-requires c κs = let start = c .before .before .before in (omega arith, omega arith, start .pre .0, start .pre .1, start .pre .2)
 
--- src/walk.rt:86:1
 returns-2 : tie.Need-returns-2
 returns-2 c = search needs
 
