@@ -16,7 +16,7 @@ use Rattle.words.proofs.Pasted.{rest-is, pasted-at}
 use Rattle.tree.specs.Stored.{flat, Sorted, Range, Cut, Forked, Below}
 use Rattle.tree.proofs.Leaves.{leaves-length, leaves-take, leaves-drop, leaf-at, leaves-long}
 use Rattle.tree.proofs.Rising.{rising-ordered, rising-take, rising-drop}
-use Rattle.tree.proofs.Step.{left-range, right-range, deeper, fork-tree}
+use Rattle.tree.proofs.Step.{left-range, right-range, deeper, fork-tree, root-step}
 
 -- the parts &s[.. m * 68] and &s[m * 68 ..]
 abbrev pub before : ℕ → Bytes → Bytes
@@ -81,4 +81,24 @@ halves n from s k m w l r f =
       tree = fork-tree S k m o long f from r l
           ∙ ap (λ z. fork (take k (key z)) (build 256 (take m S)) (build 256 (drop m S))) (leaf-at n s 0 (omega arith))
           ∙ ap₂ (λ a b. fork (take k (key (entryLeaf s))) (build 256 a) (build 256 b)) (sym x) (sym y);
+    }
+
+-- the same at the root, which parts n leaves at their first bit
+pub record RootHalves (n : ℕ) (s : Bytes) (m : ℕ) : Type 0 where
+  pub most : m ≤ n
+  pub left : Range 1 (leavesIn m (before m s))
+  pub right : Range 1 (leavesIn (n - m) (behind m s))
+  pub tree : root (leavesIn n s) ≡ fork [] (build 256 (leavesIn m (before m s))) (build 256 (leavesIn (n - m) (behind m s)))
+
+pub root-halves : (n : ℕ) (s : Bytes) (m : ℕ) → Sorted n s → Cut 0 (leavesIn n s) m → RootHalves n s m
+root-halves n s m w c =
+    let most : m ≤ n = omega (arith, c .most, leaves-length n s) in
+    let h = root-step (leavesIn n s) m (leaves-long n s (omega (arith, w .size))) c in
+    let x = before-leaves n s w m most in
+    let y = behind-leaves n s w m most in
+    record {
+      most = most;
+      left = subst (Range 1) (sym x) (h .left);
+      right = subst (Range 1) (sym y) (h .right);
+      tree = h .tree ∙ ap₂ (λ a b. fork [] (build 256 a) (build 256 b)) (sym x) (sym y);
     }

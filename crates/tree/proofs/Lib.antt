@@ -4,3 +4,4 @@ pub mod Rising
 pub mod Step
 pub mod Halves
 pub mod Slots
+pub mod Flat

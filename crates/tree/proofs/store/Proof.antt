@@ -7,10 +7,9 @@ use Prim.Native.Nat.{ℕ, _-_, _*_, _≤_}
 use lib.ListN.{length, take, drop, length-drop}
 use lib.Seq.{length-take-le}
 use Rattle.paper.specs.Level.{leavesIn}
-use Rattle.tree.specs.Stored.{Range, SideLaid}
-use Rattle.tree.proofs.Leaves.{leaves-length, leaves-long}
-use Rattle.tree.proofs.Step.{RootStep, root-range, root-step}
-use Rattle.tree.proofs.Halves.{behind, before-leaves, behind-leaves, before-sorted, behind-sorted}
+use Rattle.tree.specs.Stored.{SideLaid}
+use Rattle.tree.proofs.Step.{root-range}
+use Rattle.tree.proofs.Halves.{behind, RootHalves, root-halves, before-sorted, behind-sorted}
 use Rattle.tree.proofs.Slots.{Over, length-first, all-is, old-rest, sides-laid}
 use Rattle.tree.proofs.store.Statement.{statement}
 use Rattle.tree.proofs.store.Tie as tie
@@ -18,66 +17,61 @@ use Rattle.tree.proofs.store.Tie as tie
 abbrev start : tie.After-split → tie.Start
 start c = c .before .before .before
 
-few : (c : tie.After-split) → c .split .result ≤ start c .args .n
-few c = omega (arith, c .split .ensures .most, leaves-length (start c .args .n) (start c .args .s .now))
-
-cut : (c : tie.After-split) → RootStep (c .split .result) (leavesIn (start c .args .n) (start c .args .s .now))
-cut c =
-    let a = start c .args in
-    root-step (leavesIn (a .n) (a .s .now)) (c .split .result) (leaves-long (a .n) (a .s .now) (omega (arith, start c .pre .0 .size))) (c .split .ensures)
+cut : (c : tie.After-split) → RootHalves (start c .args .n) (start c .args .s .now) (c .split .result)
+cut c = root-halves (start c .args .n) (start c .args .s .now) (c .split .result) (start c .pre .0) (c .split .ensures)
 
 over : (c : tie.After-side) → Over (start (c .before .before .before) .args .slots .now) (c .side .last .1 .1 .0) (c .before .before .before .split .result * 64) 0 (c .before .before .before .split .result * 64)
 over c =
     let w = c .before .before .before in
     let m = w .split .result in
-    let within : m * 64 ≤ length (start w .args .slots .now) = omega (arith, few w, start w .pre .1) in
+    let within : m * 64 ≤ length (start w .args .slots .now) = omega (arith, cut w .most, start w .pre .1) in
     record { next = omega arith; within = within; left = c .side .kept .1 .1 .0 ∙ length-take-le (m * 64) (start w .args .slots .now) within }
 
 split-requires : tie.Need-split-requires
 split-requires c κs = (c .before .before .pre .0, root-range _)
 
 mul-middle : tie.Need-mul-middle
-mul-middle c = omega (arith, few c, start c .pre .0 .size, start c .pre .1)
+mul-middle c = omega (arith, cut c .most, start c .pre .0 .size, start c .pre .1)
 
 mul-behind : tie.Need-mul-behind
-mul-behind c = omega (arith, few c, start c .pre .0 .size, start c .pre .1)
+mul-behind c = omega (arith, cut c .most, start c .pre .0 .size, start c .pre .1)
 
 slice-aggregate-side : tie.Need-slice-aggregate-side
-slice-aggregate-side c = sym (length-take-le (c .before .split .result * 68) (start (c .before) .args .s .now) (omega (arith, few (c .before), start (c .before) .pre .0 .size, start (c .before) .pre .1)))
+slice-aggregate-side c = sym (length-take-le (c .before .split .result * 68) (start (c .before) .args .s .now) (omega (arith, cut (c .before) .most, start (c .before) .pre .0 .size, start (c .before) .pre .1)))
 
 slice-relend-prefix-side : tie.Need-slice-relend-prefix-side
-slice-relend-prefix-side c = omega (arith, few (c .before), start (c .before) .pre .0 .size, start (c .before) .pre .1)
+slice-relend-prefix-side c = omega (arith, cut (c .before) .most, start (c .before) .pre .0 .size, start (c .before) .pre .1)
 
 slice-aggregate-side-2 : tie.Need-slice-aggregate-side-2
-slice-aggregate-side-2 c = sym (length-take-le (c .before .before .split .result * 64) (start (c .before .before) .args .slots .now) (omega (arith, few (c .before .before), start (c .before .before) .pre .0 .size, start (c .before .before) .pre .1)))
+slice-aggregate-side-2 c = sym (length-take-le (c .before .before .split .result * 64) (start (c .before .before) .args .slots .now) (omega (arith, cut (c .before .before) .most, start (c .before .before) .pre .0 .size, start (c .before .before) .pre .1)))
 
 side-requires : tie.Need-side-requires
 side-requires c κs =
     let w = c .before .before in
     let a = start w .args in
     let m = w .split .result in (
-      before-sorted (a .n) (a .s .now) (start w .pre .0) m (few w),
-      subst (Range 1) (sym (before-leaves (a .n) (a .s .now) (start w .pre .0) m (few w))) (cut w .left),
-      length-take-le (m * 64) (a .slots .now) (omega (arith, few (c .before .before), start (c .before .before) .pre .0 .size, start (c .before .before) .pre .1)),
+      before-sorted (a .n) (a .s .now) (start w .pre .0) m (cut w .most),
+      cut w .left,
+      length-take-le (m * 64) (a .slots .now) (omega (arith, cut (c .before .before) .most, start (c .before .before) .pre .0 .size, start (c .before .before) .pre .1)),
     )
 
 sub-side : tie.Need-sub-side
-sub-side c = omega (arith, few (c .before .before .before .before .before), start (c .before .before .before .before .before) .pre .0 .size, start (c .before .before .before .before .before) .pre .1)
+sub-side c = omega (arith, cut (c .before .before .before .before .before) .most, start (c .before .before .before .before .before) .pre .0 .size, start (c .before .before .before .before .before) .pre .1)
 
 part-side-start : tie.Need-part-side-start
-part-side-start c = omega (arith, few (c .before .before .before .before .before), start (c .before .before .before .before .before) .pre .0 .size, start (c .before .before .before .before .before) .pre .1)
+part-side-start c = omega (arith, cut (c .before .before .before .before .before) .most, start (c .before .before .before .before .before) .pre .0 .size, start (c .before .before .before .before .before) .pre .1)
 
 part-side-end : tie.Need-part-side-end
 part-side-end c = search needs
 
 sub-side-2 : tie.Need-sub-side-2
-sub-side-2 c = omega (arith, few (c .before .before .before .before .before .before), start (c .before .before .before .before .before .before) .pre .0 .size, start (c .before .before .before .before .before .before) .pre .1)
+sub-side-2 c = omega (arith, cut (c .before .before .before .before .before .before) .most, start (c .before .before .before .before .before .before) .pre .0 .size, start (c .before .before .before .before .before .before) .pre .1)
 
 sub-side-3 : tie.Need-sub-side-3
-sub-side-3 c = omega (arith, few (c .before .before .before .before .before .before), start (c .before .before .before .before .before .before) .pre .1, length-first _ _ _ _ _ (over (c .before .before .before)))
+sub-side-3 c = omega (arith, cut (c .before .before .before .before .before .before) .most, start (c .before .before .before .before .before .before) .pre .1, length-first _ _ _ _ _ (over (c .before .before .before)))
 
 part-side-start-2 : tie.Need-part-side-start-2
-part-side-start-2 c = omega (arith, few (c .before .before .before .before .before .before), start (c .before .before .before .before .before .before) .pre .1, length-first _ _ _ _ _ (over (c .before .before .before)))
+part-side-start-2 c = omega (arith, cut (c .before .before .before .before .before .before) .most, start (c .before .before .before .before .before .before) .pre .1, length-first _ _ _ _ _ (over (c .before .before .before)))
 
 part-side-end-2 : tie.Need-part-side-end-2
 part-side-end-2 c = search needs
@@ -88,9 +82,9 @@ side-requires-2 c κs =
     let a = start w .args in
     let m = w .split .result in
     let o = over (c .before .before .before .before) in (
-      behind-sorted (a .n) (a .s .now) (start w .pre .0) m (few w),
-      subst (Range 1) (sym (behind-leaves (a .n) (a .s .now) (start w .pre .0) m (few w))) (cut w .right),
-      ap length (old-rest _ _ _ _ _ o) ∙ length-drop (m * 64) (a .slots .now) ∙ omega (arith, few w, start w .pre .1),
+      behind-sorted (a .n) (a .s .now) (start w .pre .0) m (cut w .most),
+      cut w .right,
+      ap length (old-rest _ _ _ _ _ o) ∙ length-drop (m * 64) (a .slots .now) ∙ omega (arith, cut w .most, start w .pre .1),
     )
 
 same-length : tie.Need-same-length

@@ -1,0 +1,5 @@
+-- Laws of a label's path.
+pub mod Labels
+pub mod Ways
+pub mod Ends
+pub mod There

@@ -1,0 +1,2 @@
+-- What the contracts of a label's path cite.
+pub mod Written

@@ -1,0 +1,37 @@
+-- A label's path as it is measured and written.
+use mathlib.Core.Path.{_≡_}
+use mathlib.Core.List.{_++_}
+use Prim.Native.Nat.{ℕ, zero, suc, _+_}
+use lib.ListN.{length}
+use Rattle.paper.specs.Bytes.{Bytes, pasted}
+use Rattle.paper.specs.Bits.{Bits}
+use Rattle.paper.specs.Tree.{Tree}
+use Rattle.paper.specs.Path.{End, waySteps, wayEnd}
+use Rattle.paper.specs.Layout.{timesBytes}
+use Rattle.paper.specs.Fields.{stepField, endKind, endField}
+use Rattle.tree_path.specs.declared.walk.Way.{Way}
+
+-- the number of steps, and the kind of the end
+abbrev pub wayOf : Bits → Tree → Way
+wayOf L t = record { steps = length (waySteps L t); kind = endKind (wayEnd L t) }
+
+-- how many bytes an end has behind its kind: "0, this leaf: commitment, epoch. 1, another leaf: label, commitment, epoch. 2, another
+-- inner node: its 98 bytes after 0x01 .. 3, nothing"
+abbrev pub endSize : ℕ → ℕ
+endSize zero = 36
+endSize (suc zero) = 68
+endSize (suc (suc zero)) = 98
+endSize (suc (suc (suc k))) = 0
+
+-- an end; how many steps stand before it changes nothing in its bytes
+unfoldable pub endBytes : End → Bytes
+endBytes e = endField 1 .bytes e
+
+-- the steps and the end, as they stand behind the count
+unfoldable pub wayBytes : Bits → Tree → Bytes
+wayBytes L t = timesBytes (stepField .bytes) (waySteps L t) ++ endBytes (wayEnd L t)
+
+-- bytes laid over an output from a place on, and the place behind them
+pub record Wrote (old : Bytes) (at : ℕ) (x out : Bytes) (next : ℕ) : Type 0 where
+  pub laid : out ≡ pasted old at x
+  pub behind : next ≡ at + length x
