@@ -19,11 +19,6 @@ use Rattle.tree.specs.Stored.{Sorted}
 use Rattle.forest.proofs.Standing.{front-within, same-leaves, ordered, standing}
 use Rattle.forest.proofs.grow.Statement.{statement}
 use Rattle.forest.proofs.grow.Tie as tie
-use Rattle.forest.proofs.grow.Reads as reads
-use Rattle.forest.proofs.grow.Lts as lts
-use Rattle.arrange.proofs.arrange.Reads as arrange-reads
-use Rattle.gather.proofs.gather.Reads as gather-reads
-use Rattle.tree.proofs.store.Reads as store-reads
 
 -- src/lib.rt:31:9
 gather-requires : tie.Need-gather-requires
