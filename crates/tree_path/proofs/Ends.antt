@@ -10,8 +10,9 @@ use Rattle.paper.specs.Lists.{All}
 use Rattle.paper.specs.Numbers.{wide}
 use Rattle.paper.specs.Bytes.{Bytes, Bytewise, be, number}
 use Rattle.paper.specs.Bits.{Bits, bitsOf, pack}
-use Rattle.paper.specs.Tree.{Tree}
-use Rattle.paper.specs.Path.{Step, End, this, other, off, none, Path, waySteps, wayEnd, way}
+use Rattle.paper.specs.Tree.{key, Tree}
+use Rattle.paper.specs.Level.{entryLeaf}
+use Rattle.paper.specs.Path.{Step, End, this, other, off, none, sameBits, endAt, waySteps, wayEnd, way}
 use Rattle.paper.specs.Layout.{block, fixed, within, seq, led, times, timesBytes, such, view}
 use Rattle.paper.specs.Fields.{endKind, endOf, endField, stepField, pathField}
 use Rattle.paper.proofs.Lists.{all-take, all-drop}
@@ -40,11 +41,11 @@ path-bytes L t = ap (λ x. be 2 (length (waySteps L t)) ++ (timesBytes (stepFiel
 
 -- ---- the ends
 
-pub this-bytes : (c : Bytes) (e : ℕ) → endBytes (this c e) ≡ 0 ∷ (c ++ be 4 e)
+this-bytes : (c : Bytes) (e : ℕ) → endBytes (this c e) ≡ 0 ∷ (c ++ be 4 e)
 unfolding endBytes led within endOf view seq block be
 this-bytes c e = refl
 
-pub other-bytes : (m : Bits) (c : Bytes) (e : ℕ) → endBytes (other m c e) ≡ 1 ∷ (pack wide m ++ (c ++ be 4 e))
+other-bytes : (m : Bits) (c : Bytes) (e : ℕ) → endBytes (other m c e) ≡ 1 ∷ (pack wide m ++ (c ++ be 4 e))
 unfolding endBytes led within endOf view seq block be
 other-bytes m c e = refl
 
@@ -66,13 +67,21 @@ module _ (s : Bytes) (h : 68 ≤ length s) (w : Bytewise s) where
       ap (λ x. take 32 (drop 32 s) ++ x) (epoch-bytes ∙ ap (take 4) (sym (drop-drop 32 32 s)))
       ∙ sym (take-add 32 4 (drop 32 s))
 
-  pub this-leaf : endBytes (this (take 32 (drop 32 s)) (number (take 4 (drop 64 s)))) ≡ 0 ∷ take 36 (drop 32 s)
+  this-leaf : endBytes (this (take 32 (drop 32 s)) (number (take 4 (drop 64 s)))) ≡ 0 ∷ take 36 (drop 32 s)
   this-leaf = this-bytes _ _ ∙ ap (λ x. 0 ∷ x) fields
 
-  pub other-leaf : endBytes (other (bitsOf (take 32 s)) (take 32 (drop 32 s)) (number (take 4 (drop 64 s)))) ≡ 1 ∷ take 68 s
+  other-leaf : endBytes (other (bitsOf (take 32 s)) (take 32 (drop 32 s)) (number (take 4 (drop 64 s)))) ≡ 1 ∷ take 68 s
   other-leaf =
       let e : pack wide (bitsOf (take 32 s)) ≡ take 32 s = ap (λ n. pack n (bitsOf (take 32 s))) (sym (length-take-le 32 s (omega arith))) ∙ pack-bitsOf (take 32 s) (all-take _ 32 s w) in
       other-bytes _ _ _ ∙ ap₂ (λ x y. 1 ∷ (x ++ y)) e fields ∙ ap (λ x. 1 ∷ x) (sym (take-add 32 36 s))
+
+  pub leaf-this : (L : Bits) → sameBits (key (entryLeaf s)) L ≡ true → endBytes (endAt L (entryLeaf s)) ≡ 0 ∷ take 36 (drop 32 s)
+  unfolding endAt
+  leaf-this L e = rw e this-leaf
+
+  pub leaf-other : (L : Bits) → sameBits (key (entryLeaf s)) L ≡ false → endBytes (endAt L (entryLeaf s)) ≡ 1 ∷ take 68 s
+  unfolding endAt
+  leaf-other L e = rw e other-leaf
 
 -- ---- sizes
 

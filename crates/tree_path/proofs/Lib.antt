@@ -3,3 +3,4 @@ pub mod Labels
 pub mod Ways
 pub mod Ends
 pub mod There
+pub mod Writing

@@ -25,7 +25,7 @@ abbrev write-below-below : ℕ → In 4 write-below-kinds.ps
 write-below-below t =
     and 4 write-below-kinds.ps (falls 4 write-below-kinds.ps _<_ μ-write-below t) write-below.Pre
 
--- src/write.rt:76:9
+-- src/write.rt:83:9
 write-below-write-leaf-requires : (t : ℕ) → write-below-lts.Need-write-leaf-requires (
   write-leaf-reads.Asked,
   write-leaf-reads.Learnt,
@@ -46,7 +46,7 @@ write-below-write-leaf-requires : (t : ℕ) → write-below-lts.Need-write-leaf-
 ) (write-below-at t) write-below.Post
 write-below-write-leaf-requires t c κs = ?
 
--- src/write.rt:76:9
+-- src/write.rt:83:9
 write-below-same-length : (t : ℕ) → write-below-lts.Need-same-length (
   write-leaf-reads.Asked,
   write-leaf-reads.Learnt,
@@ -67,7 +67,7 @@ write-below-same-length : (t : ℕ) → write-below-lts.Need-same-length (
 ) (write-below-at t) write-below.Post
 write-below-same-length t c = ?
 
--- src/write.rt:76:9
+-- src/write.rt:83:9
 write-below-returns : (t : ℕ) → write-below-lts.Need-returns (
   write-leaf-reads.Asked,
   write-leaf-reads.Learnt,
@@ -88,7 +88,7 @@ write-below-returns : (t : ℕ) → write-below-lts.Need-returns (
 ) (write-below-at t) write-below.Post
 write-below-returns t c = ?
 
--- src/write.rt:78:9
+-- src/write.rt:85:9
 write-below-fork-of-requires : (t : ℕ) → write-below-lts.Need-fork-of-requires (
   write-leaf-reads.Asked,
   write-leaf-reads.Learnt,
@@ -109,7 +109,7 @@ write-below-fork-of-requires : (t : ℕ) → write-below-lts.Need-fork-of-requir
 ) (write-below-at t) write-below.Post
 write-below-fork-of-requires t c κs = ?
 
--- src/write.rt:81:17
+-- src/write.rt:88:17
 write-below-sub-slot : (t : ℕ) → write-below-lts.Need-sub-slot (
   write-leaf-reads.Asked,
   write-leaf-reads.Learnt,
@@ -130,7 +130,7 @@ write-below-sub-slot : (t : ℕ) → write-below-lts.Need-sub-slot (
 ) (write-below-at t) write-below.Post
 write-below-sub-slot t c = ?
 
--- src/write.rt:81:16
+-- src/write.rt:88:16
 write-below-mul-slot : (t : ℕ) → write-below-lts.Need-mul-slot (
   write-leaf-reads.Asked,
   write-leaf-reads.Learnt,
@@ -151,7 +151,7 @@ write-below-mul-slot : (t : ℕ) → write-below-lts.Need-mul-slot (
 ) (write-below-at t) write-below.Post
 write-below-mul-slot t c = ?
 
--- src/write.rt:82:18
+-- src/write.rt:89:18
 write-below-mul-behind : (t : ℕ) → write-below-lts.Need-mul-behind (
   write-leaf-reads.Asked,
   write-leaf-reads.Learnt,
@@ -172,7 +172,7 @@ write-below-mul-behind : (t : ℕ) → write-below-lts.Need-mul-behind (
 ) (write-below-at t) write-below.Post
 write-below-mul-behind t c = ?
 
--- src/write.rt:83:9
+-- src/write.rt:90:9
 write-below-has-prefix-requires : (t : ℕ) → write-below-lts.Need-has-prefix-requires (
   write-leaf-reads.Asked,
   write-leaf-reads.Learnt,
@@ -193,7 +193,7 @@ write-below-has-prefix-requires : (t : ℕ) → write-below-lts.Need-has-prefix-
 ) (write-below-at t) write-below.Post
 write-below-has-prefix-requires t c κs = ?
 
--- src/write.rt:84:32
+-- src/write.rt:91:32
 write-below-sub-write-off : (t : ℕ) → write-below-lts.Need-sub-write-off (
   write-leaf-reads.Asked,
   write-leaf-reads.Learnt,
@@ -214,7 +214,7 @@ write-below-sub-write-off : (t : ℕ) → write-below-lts.Need-sub-write-off (
 ) (write-below-at t) write-below.Post
 write-below-sub-write-off t c = ?
 
--- src/write.rt:84:32
+-- src/write.rt:91:32
 write-below-part-write-off-start : (t : ℕ) → write-below-lts.Need-part-write-off-start (
   write-leaf-reads.Asked,
   write-leaf-reads.Learnt,
@@ -235,7 +235,7 @@ write-below-part-write-off-start : (t : ℕ) → write-below-lts.Need-part-write
 ) (write-below-at t) write-below.Post
 write-below-part-write-off-start t c = ?
 
--- src/write.rt:84:32
+-- src/write.rt:91:32
 write-below-part-write-off-end : (t : ℕ) → write-below-lts.Need-part-write-off-end (
   write-leaf-reads.Asked,
   write-leaf-reads.Learnt,
@@ -256,7 +256,7 @@ write-below-part-write-off-end : (t : ℕ) → write-below-lts.Need-part-write-o
 ) (write-below-at t) write-below.Post
 write-below-part-write-off-end t c = ?
 
--- src/write.rt:84:9
+-- src/write.rt:91:9
 write-below-write-off-requires : (t : ℕ) → write-below-lts.Need-write-off-requires (
   write-leaf-reads.Asked,
   write-leaf-reads.Learnt,
@@ -277,7 +277,7 @@ write-below-write-off-requires : (t : ℕ) → write-below-lts.Need-write-off-re
 ) (write-below-at t) write-below.Post
 write-below-write-off-requires t c κs = ?
 
--- src/write.rt:84:9
+-- src/write.rt:91:9
 write-below-same-length-2 : (t : ℕ) → write-below-lts.Need-same-length-2 (
   write-leaf-reads.Asked,
   write-leaf-reads.Learnt,
@@ -298,7 +298,7 @@ write-below-same-length-2 : (t : ℕ) → write-below-lts.Need-same-length-2 (
 ) (write-below-at t) write-below.Post
 write-below-same-length-2 t c = ?
 
--- src/write.rt:84:9
+-- src/write.rt:91:9
 write-below-returns-2 : (t : ℕ) → write-below-lts.Need-returns-2 (
   write-leaf-reads.Asked,
   write-leaf-reads.Learnt,
@@ -319,7 +319,7 @@ write-below-returns-2 : (t : ℕ) → write-below-lts.Need-returns-2 (
 ) (write-below-at t) write-below.Post
 write-below-returns-2 t c = ?
 
--- src/write.rt:86:18
+-- src/write.rt:93:18
 write-below-mul-middle : (t : ℕ) → write-below-lts.Need-mul-middle (
   write-leaf-reads.Asked,
   write-leaf-reads.Learnt,
@@ -340,7 +340,7 @@ write-below-mul-middle : (t : ℕ) → write-below-lts.Need-mul-middle (
 ) (write-below-at t) write-below.Post
 write-below-mul-middle t c = ?
 
--- src/write.rt:87:8
+-- src/write.rt:94:8
 write-below-label-bit-requires : (t : ℕ) → write-below-lts.Need-label-bit-requires (
   write-leaf-reads.Asked,
   write-leaf-reads.Learnt,
@@ -361,7 +361,7 @@ write-below-label-bit-requires : (t : ℕ) → write-below-lts.Need-label-bit-re
 ) (write-below-at t) write-below.Post
 write-below-label-bit-requires t c κs = ?
 
--- src/write.rt:88:23
+-- src/write.rt:95:23
 write-below-digest-at-requires : (t : ℕ) → write-below-lts.Need-digest-at-requires (
   write-leaf-reads.Asked,
   write-leaf-reads.Learnt,
@@ -382,7 +382,7 @@ write-below-digest-at-requires : (t : ℕ) → write-below-lts.Need-digest-at-re
 ) (write-below-at t) write-below.Post
 write-below-digest-at-requires t c κs = ?
 
--- src/write.rt:89:9
+-- src/write.rt:96:9
 write-below-write-step-requires : (t : ℕ) → write-below-lts.Need-write-step-requires (
   write-leaf-reads.Asked,
   write-leaf-reads.Learnt,
@@ -403,7 +403,7 @@ write-below-write-step-requires : (t : ℕ) → write-below-lts.Need-write-step-
 ) (write-below-at t) write-below.Post
 write-below-write-step-requires t c κs = ?
 
--- src/write.rt:90:28
+-- src/write.rt:97:28
 write-below-sub-write-below : (t : ℕ) → write-below-lts.Need-sub-write-below (
   write-leaf-reads.Asked,
   write-leaf-reads.Learnt,
@@ -424,7 +424,7 @@ write-below-sub-write-below : (t : ℕ) → write-below-lts.Need-sub-write-below
 ) (write-below-at t) write-below.Post
 write-below-sub-write-below t c = ?
 
--- src/write.rt:90:28
+-- src/write.rt:97:28
 write-below-part-write-below-start : (t : ℕ) → write-below-lts.Need-part-write-below-start (
   write-leaf-reads.Asked,
   write-leaf-reads.Learnt,
@@ -445,7 +445,7 @@ write-below-part-write-below-start : (t : ℕ) → write-below-lts.Need-part-wri
 ) (write-below-at t) write-below.Post
 write-below-part-write-below-start t c = ?
 
--- src/write.rt:90:28
+-- src/write.rt:97:28
 write-below-part-write-below-end : (t : ℕ) → write-below-lts.Need-part-write-below-end (
   write-leaf-reads.Asked,
   write-leaf-reads.Learnt,
@@ -466,7 +466,7 @@ write-below-part-write-below-end : (t : ℕ) → write-below-lts.Need-part-write
 ) (write-below-at t) write-below.Post
 write-below-part-write-below-end t c = ?
 
--- src/write.rt:90:42
+-- src/write.rt:97:42
 write-below-sub-write-below-2 : (t : ℕ) → write-below-lts.Need-sub-write-below-2 (
   write-leaf-reads.Asked,
   write-leaf-reads.Learnt,
@@ -487,7 +487,7 @@ write-below-sub-write-below-2 : (t : ℕ) → write-below-lts.Need-sub-write-bel
 ) (write-below-at t) write-below.Post
 write-below-sub-write-below-2 t c = ?
 
--- src/write.rt:90:49
+-- src/write.rt:97:49
 write-below-add-write-below : (t : ℕ) → write-below-lts.Need-add-write-below (
   write-leaf-reads.Asked,
   write-leaf-reads.Learnt,
@@ -508,7 +508,7 @@ write-below-add-write-below : (t : ℕ) → write-below-lts.Need-add-write-below
 ) (write-below-at t) write-below.Post
 write-below-add-write-below t c = ?
 
--- src/write.rt:90:56
+-- src/write.rt:97:56
 write-below-sub-write-below-3 : (t : ℕ) → write-below-lts.Need-sub-write-below-3 (
   write-leaf-reads.Asked,
   write-leaf-reads.Learnt,
@@ -529,7 +529,7 @@ write-below-sub-write-below-3 : (t : ℕ) → write-below-lts.Need-sub-write-bel
 ) (write-below-at t) write-below.Post
 write-below-sub-write-below-3 t c = ?
 
--- src/write.rt:90:56
+-- src/write.rt:97:56
 write-below-part-write-below-start-2 : (t : ℕ) → write-below-lts.Need-part-write-below-start-2 (
   write-leaf-reads.Asked,
   write-leaf-reads.Learnt,
@@ -550,7 +550,7 @@ write-below-part-write-below-start-2 : (t : ℕ) → write-below-lts.Need-part-w
 ) (write-below-at t) write-below.Post
 write-below-part-write-below-start-2 t c = ?
 
--- src/write.rt:90:56
+-- src/write.rt:97:56
 write-below-part-write-below-end-2 : (t : ℕ) → write-below-lts.Need-part-write-below-end-2 (
   write-leaf-reads.Asked,
   write-leaf-reads.Learnt,
@@ -571,7 +571,7 @@ write-below-part-write-below-end-2 : (t : ℕ) → write-below-lts.Need-part-wri
 ) (write-below-at t) write-below.Post
 write-below-part-write-below-end-2 t c = ?
 
--- src/write.rt:90:86
+-- src/write.rt:97:86
 write-below-add-write-below-2 : (t : ℕ) → write-below-lts.Need-add-write-below-2 (
   write-leaf-reads.Asked,
   write-leaf-reads.Learnt,
@@ -592,7 +592,7 @@ write-below-add-write-below-2 : (t : ℕ) → write-below-lts.Need-add-write-bel
 ) (write-below-at t) write-below.Post
 write-below-add-write-below-2 t c = ?
 
--- src/write.rt:90:9
+-- src/write.rt:97:9
 write-below-write-below-requires : (t : ℕ) → write-below-lts.Need-write-below-requires (
   write-leaf-reads.Asked,
   write-leaf-reads.Learnt,
@@ -613,7 +613,7 @@ write-below-write-below-requires : (t : ℕ) → write-below-lts.Need-write-belo
 ) (write-below-at t) write-below.Post
 write-below-write-below-requires t c κs = ?
 
--- src/write.rt:90:9
+-- src/write.rt:97:9
 write-below-same-length-3 : (t : ℕ) → write-below-lts.Need-same-length-3 (
   write-leaf-reads.Asked,
   write-leaf-reads.Learnt,
@@ -634,7 +634,7 @@ write-below-same-length-3 : (t : ℕ) → write-below-lts.Need-same-length-3 (
 ) (write-below-at t) write-below.Post
 write-below-same-length-3 t c = ?
 
--- src/write.rt:90:9
+-- src/write.rt:97:9
 write-below-returns-3 : (t : ℕ) → write-below-lts.Need-returns-3 (
   write-leaf-reads.Asked,
   write-leaf-reads.Learnt,
@@ -655,7 +655,7 @@ write-below-returns-3 : (t : ℕ) → write-below-lts.Need-returns-3 (
 ) (write-below-at t) write-below.Post
 write-below-returns-3 t c = ?
 
--- src/write.rt:92:36
+-- src/write.rt:99:36
 write-below-add-digest-at : (t : ℕ) → write-below-lts.Need-add-digest-at (
   write-leaf-reads.Asked,
   write-leaf-reads.Learnt,
@@ -676,7 +676,7 @@ write-below-add-digest-at : (t : ℕ) → write-below-lts.Need-add-digest-at (
 ) (write-below-at t) write-below.Post
 write-below-add-digest-at t c = ?
 
--- src/write.rt:92:19
+-- src/write.rt:99:19
 write-below-digest-at-requires-2 : (t : ℕ) → write-below-lts.Need-digest-at-requires-2 (
   write-leaf-reads.Asked,
   write-leaf-reads.Learnt,
@@ -697,7 +697,7 @@ write-below-digest-at-requires-2 : (t : ℕ) → write-below-lts.Need-digest-at-
 ) (write-below-at t) write-below.Post
 write-below-digest-at-requires-2 t c κs = ?
 
--- src/write.rt:93:5
+-- src/write.rt:100:5
 write-below-write-step-requires-2 : (t : ℕ) → write-below-lts.Need-write-step-requires-2 (
   write-leaf-reads.Asked,
   write-leaf-reads.Learnt,
@@ -718,7 +718,7 @@ write-below-write-step-requires-2 : (t : ℕ) → write-below-lts.Need-write-ste
 ) (write-below-at t) write-below.Post
 write-below-write-step-requires-2 t c κs = ?
 
--- src/write.rt:94:17
+-- src/write.rt:101:17
 write-below-slice-aggregate-write-below :
     (t : ℕ) → write-below-lts.Need-slice-aggregate-write-below (
       write-leaf-reads.Asked,
@@ -740,7 +740,7 @@ write-below-slice-aggregate-write-below :
     ) (write-below-at t) write-below.Post
 write-below-slice-aggregate-write-below t c = ?
 
--- src/write.rt:94:34
+-- src/write.rt:101:34
 write-below-add-write-below-3 : (t : ℕ) → write-below-lts.Need-add-write-below-3 (
   write-leaf-reads.Asked,
   write-leaf-reads.Learnt,
@@ -761,7 +761,7 @@ write-below-add-write-below-3 : (t : ℕ) → write-below-lts.Need-add-write-bel
 ) (write-below-at t) write-below.Post
 write-below-add-write-below-3 t c = ?
 
--- src/write.rt:94:41
+-- src/write.rt:101:41
 write-below-slice-aggregate-write-below-2 :
     (t : ℕ) → write-below-lts.Need-slice-aggregate-write-below-2 (
       write-leaf-reads.Asked,
@@ -783,7 +783,7 @@ write-below-slice-aggregate-write-below-2 :
     ) (write-below-at t) write-below.Post
 write-below-slice-aggregate-write-below-2 t c = ?
 
--- src/write.rt:94:69
+-- src/write.rt:101:69
 write-below-add-write-below-4 : (t : ℕ) → write-below-lts.Need-add-write-below-4 (
   write-leaf-reads.Asked,
   write-leaf-reads.Learnt,
@@ -804,7 +804,7 @@ write-below-add-write-below-4 : (t : ℕ) → write-below-lts.Need-add-write-bel
 ) (write-below-at t) write-below.Post
 write-below-add-write-below-4 t c = ?
 
--- src/write.rt:94:5
+-- src/write.rt:101:5
 write-below-write-below-requires-2 : (t : ℕ) → write-below-lts.Need-write-below-requires-2 (
   write-leaf-reads.Asked,
   write-leaf-reads.Learnt,
@@ -825,7 +825,7 @@ write-below-write-below-requires-2 : (t : ℕ) → write-below-lts.Need-write-be
 ) (write-below-at t) write-below.Post
 write-below-write-below-requires-2 t c κs = ?
 
--- src/write.rt:63:1
+-- src/write.rt:70:1
 write-below-same-length-4 : (t : ℕ) → write-below-lts.Need-same-length-4 (
   write-leaf-reads.Asked,
   write-leaf-reads.Learnt,
@@ -846,7 +846,7 @@ write-below-same-length-4 : (t : ℕ) → write-below-lts.Need-same-length-4 (
 ) (write-below-at t) write-below.Post
 write-below-same-length-4 t c = ?
 
--- src/write.rt:63:1
+-- src/write.rt:70:1
 write-below-returns-4 : (t : ℕ) → write-below-lts.Need-returns-4 (
   write-leaf-reads.Asked,
   write-leaf-reads.Learnt,

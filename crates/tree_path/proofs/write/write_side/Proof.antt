@@ -5,43 +5,43 @@ use Rattle.tree_path.proofs.write.write_side.Reads as reads
 use Rattle.tree_path.proofs.write.write_side.Lts as lts
 use Rattle.tree_path.proofs.write.write_below.Reads as write-below-reads
 
--- src/write.rt:110:9
+-- src/write.rt:117:9
 slice-write-out : tie.Need-slice-write-out
 slice-write-out c = ?
 
--- src/write.rt:111:16
+-- src/write.rt:118:16
 add-result : tie.Need-add-result
 add-result c = search needs
 
--- src/write.rt:111:9
+-- src/write.rt:118:9
 same-length : tie.Need-same-length
 same-length c = search needs
 
--- src/write.rt:111:9
+-- src/write.rt:118:9
 returns : tie.Need-returns
 returns c = ?
 
--- src/write.rt:113:18
+-- src/write.rt:120:18
 sub-spare : tie.Need-sub-spare
 sub-spare c = search needs
 
--- src/write.rt:113:17
+-- src/write.rt:120:17
 mul-spare : tie.Need-mul-spare
 mul-spare c = search needs
 
--- src/write.rt:114:26
+-- src/write.rt:121:26
 slice-aggregate-write-below : tie.Need-slice-aggregate-write-below
 slice-aggregate-write-below c = ?
 
--- src/write.rt:114:5
+-- src/write.rt:121:5
 write-below-requires : tie.Need-write-below-requires
 write-below-requires c κs = search needs
 
--- src/write.rt:98:1
+-- src/write.rt:105:1
 same-length-2 : tie.Need-same-length-2
 same-length-2 c = search needs
 
--- src/write.rt:98:1
+-- src/write.rt:105:1
 returns-2 : tie.Need-returns-2
 returns-2 c = search needs
 

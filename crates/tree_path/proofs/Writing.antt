@@ -1,0 +1,59 @@
+-- Writing one string right behind another, and the steps and ends of a path so. Assumes nothing.
+use mathlib.Core.Path.{_≡_, sym, ap, ap₂, _∙_}
+use mathlib.Core.List.{[], _∷_, _++_}
+use Prim.Native.Nat.{ℕ, _+_, _≤_}
+use native.Mathlib.Omega.{arith}
+use lib.ListN.{length, take, drop, set, length-append, take-append-drop}
+use Rattle.paper.specs.Numbers.{wide}
+use Rattle.paper.specs.Bytes.{Bytes, be, pasted}
+use Rattle.paper.specs.Bits.{Bits, pack}
+use Rattle.paper.specs.Tree.{Tree}
+use Rattle.paper.specs.Path.{off}
+use Rattle.paper.specs.Fields.{stepField}
+use Rattle.paper.proofs.Bytes.{be-length, pack-length}
+use Rattle.words.proofs.Pasted.{pasted-one, pasted-pasted}
+use Rattle.tree_path.specs.Written.{endBytes, wayBytes, Wrote}
+use Rattle.tree_path.proofs.Ends.{step-bytes, off-bytes}
+
+-- y behind x
+pub laid-next : (o v u x y : Bytes) (at mid : ℕ) → at ≤ length o → v ≡ pasted o at x → mid ≡ at + length x → u ≡ pasted v mid y → u ≡ pasted o at (x ++ y)
+laid-next o v u x y at mid h e f g = g ∙ ap₂ (λ d i. pasted d i y) e f ∙ pasted-pasted o at x y h
+
+pub wrote-next : (o v u x y z : Bytes) (at mid r : ℕ) → at ≤ length o → v ≡ pasted o at x → mid ≡ at + length x → Wrote v mid y u r → z ≡ x ++ y → Wrote o at z u r
+wrote-next o v u x y z at mid r h e f g q = record {
+  laid = laid-next o v u x y at mid h e f (g .laid) ∙ ap (pasted o at) (sym q);
+  behind = g .behind ∙ omega (arith, length-append x y, ap length q);
+}
+
+-- ---- an end
+
+pub end-wrote : (o u x : Bytes) (at kind : ℕ) → at + 1 + length x ≤ length o → u ≡ pasted (set o at kind) (at + 1) x → Wrote o at (kind ∷ x) u (at + 1 + length x)
+end-wrote o u x at kind h e = record {
+  laid = laid-next o (set o at kind) u (kind ∷ []) x at (at + 1) (omega arith) (pasted-one o at kind (omega arith)) (omega arith) e;
+  behind = omega arith;
+}
+
+pub off-wrote : (o a b c slot : Bytes) (at k : ℕ) (p : Bits) → at + 99 ≤ length o → length p ≡ k → length slot ≡ 64
+    → a ≡ pasted (set o at 2) (at + 1) (be 2 k) → b ≡ pasted a (at + 3) (pack wide p) → c ≡ pasted b (at + 35) slot → Wrote o at (endBytes (off p (take 32 slot) (drop 32 slot))) c (at + 99)
+off-wrote o a b c slot at k p h n l ea eb ec =
+    let whole : 2 ∷ ((be 2 k ++ pack wide p) ++ slot) ≡ endBytes (off p (take 32 slot) (drop 32 slot)) =
+    ap₂ (λ i x. 2 ∷ ((be 2 i ++ pack wide p) ++ x)) (sym n) (sym (take-append-drop 32 slot)) ∙ sym (off-bytes p (take 32 slot) (drop 32 slot)) in
+    let first = laid-next o (set o at 2) a (2 ∷ []) (be 2 k) at (at + 1) (omega arith) (pasted-one o at 2 (omega arith)) (omega arith) ea in
+    let second = laid-next o a b (2 ∷ be 2 k) (pack wide p) at (at + 3) (omega arith) first (omega (arith, be-length 2 k)) eb in
+    let size : length (2 ∷ (be 2 k ++ pack wide p)) ≡ 35 = omega (arith, length-append (be 2 k) (pack wide p), be-length 2 k, pack-length wide p) in
+    record {
+      laid = laid-next o b c (2 ∷ (be 2 k ++ pack wide p)) slot at (at + 35) (omega arith) second (omega arith) ec ∙ ap (pasted o at) whole;
+      behind = omega (arith, length-append (be 2 k ++ pack wide p) slot, ap length whole);
+    }
+
+-- ---- a step, and the way behind it
+
+pub step-long : (k : ℕ) (sibling : Bytes) → length sibling ≡ 32 → length (stepField .bytes (record { length = k; sibling = sibling })) ≡ 34
+step-long k sibling h = ap length (step-bytes k sibling) ∙ omega (arith, length-append (be 2 k) sibling, be-length 2 k)
+
+module _ (L : Bits) (t u : Tree) (k : ℕ) (sibling : Bytes) (size : length sibling ≡ 32) (e : wayBytes L t ≡ stepField .bytes (record { length = k; sibling = sibling }) ++ wayBytes L u) where
+  pub way-long : length (wayBytes L t) ≡ 34 + length (wayBytes L u)
+  way-long = ap length e ∙ omega (arith, length-append (stepField .bytes (record { length = k; sibling = sibling })) (wayBytes L u), step-long k sibling size)
+
+  pub way-wrote : (o v w : Bytes) (at r : ℕ) → at ≤ length o → v ≡ pasted o at (stepField .bytes (record { length = k; sibling = sibling })) → Wrote v (at + 34) (wayBytes L u) w r → Wrote o at (wayBytes L t) w r
+  way-wrote o v w at r h f g = wrote-next o v w _ (wayBytes L u) (wayBytes L t) at (at + 34) r h f (omega (arith, step-long k sibling size)) g e
