@@ -4,3 +4,4 @@ pub mod Ways
 pub mod Ends
 pub mod There
 pub mod Writing
+pub mod Root

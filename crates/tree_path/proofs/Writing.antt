@@ -1,21 +1,24 @@
 -- Writing one string right behind another, and the steps and ends of a path so. Assumes nothing.
 use mathlib.Core.Path.{_≡_, sym, ap, ap₂, _∙_}
 use mathlib.Core.List.{[], _∷_, _++_}
-use Prim.Native.Nat.{ℕ, _+_, _≤_}
+use Prim.Native.Nat.{ℕ, _+_, _≤_, _<_}
 use native.Mathlib.Omega.{arith}
 use lib.ListN.{length, take, drop, set, length-append, take-append-drop}
 use Rattle.paper.specs.Numbers.{wide}
 use Rattle.paper.specs.Bytes.{Bytes, be, pasted}
 use Rattle.paper.specs.Bits.{Bits, pack}
-use Rattle.paper.specs.Tree.{digest, Tree, top}
+use Rattle.paper.specs.Tree.{digest, Tree, top, build}
 use Rattle.paper.specs.Strings.{nodeString}
-use Rattle.paper.specs.Path.{off}
-use Rattle.paper.specs.Fields.{stepField}
+use Rattle.paper.specs.Path.{off, waySteps, way}
+use Rattle.paper.specs.Fields.{stepField, pathField}
+use Rattle.paper.specs.Level.{leavesIn}
 use Rattle.paper.proofs.Bytes.{be-length, pack-length}
 use Rattle.paper.proofs.Fits.{digest-wide}
 use Rattle.words.proofs.Pasted.{pasted-one, pasted-pasted}
 use Rattle.tree_path.specs.Written.{endBytes, wayBytes, Wrote}
-use Rattle.tree_path.proofs.Ends.{step-bytes, off-bytes}
+use Rattle.tree_path.proofs.Ends.{step-bytes, path-bytes, off-bytes, none-bytes}
+use Rattle.tree_path.proofs.Ways.{bare}
+use Rattle.tree_path.proofs.Ways as W
 
 -- y behind x
 pub laid-next : (o v u x y : Bytes) (at mid : ℕ) → at ≤ length o → v ≡ pasted o at x → mid ≡ at + length x → u ≡ pasted v mid y → u ≡ pasted o at (x ++ y)
@@ -61,5 +64,23 @@ module _ (L : Bits) (t u : Tree) (k : ℕ) (sibling : Bytes) (size : length sibl
   pub way-long : length (wayBytes L t) ≡ 34 + length (wayBytes L u)
   way-long = ap length e ∙ omega (arith, length-append (stepField .bytes (record { length = k; sibling = sibling })) (wayBytes L u), step-long k sibling size)
 
-  pub way-wrote : (o v w : Bytes) (at r : ℕ) → at ≤ length o → v ≡ pasted o at (stepField .bytes (record { length = k; sibling = sibling })) → Wrote v (at + 34) (wayBytes L u) w r → Wrote o at (wayBytes L t) w r
-  way-wrote o v w at r h f g = wrote-next o v w _ (wayBytes L u) (wayBytes L t) at (at + 34) r h f (omega (arith, step-long k sibling size)) g e
+  pub way-wrote : (o v w : Bytes) (at mid r : ℕ) → at ≤ length o → mid ≡ at + 34 → v ≡ pasted o at (stepField .bytes (record { length = k; sibling = sibling })) → Wrote v mid (wayBytes L u) w r → Wrote o at (wayBytes L t) w r
+  way-wrote o v w at mid r h q f g = wrote-next o v w _ (wayBytes L u) (wayBytes L t) at mid r h f (omega (arith, step-long k sibling size)) g e
+
+  -- with the count before it
+  pub path-long : length (pathField .bytes (way L t)) ≡ 36 + length (wayBytes L u)
+  path-long = ap length (path-bytes L t) ∙ omega (arith, length-append (be 2 (length (waySteps L t))) (wayBytes L t), be-length 2 (length (waySteps L t)), way-long)
+
+  pub path-wrote : (o v w x : Bytes) (at r steps : ℕ) → at + 36 ≤ length o → length v ≡ length o → steps ≡ length (waySteps L t) → v ≡ pasted o at (be 2 steps)
+      → w ≡ pasted v (at + 2) (stepField .bytes (record { length = k; sibling = sibling })) → Wrote w (at + 36) (wayBytes L u) x r → Wrote o at (pathField .bytes (way L t)) x r
+  path-wrote o v w x at r steps h l q f g d =
+      wrote-next o v x (be 2 steps) (wayBytes L t) _ at (at + 2) r (omega arith) f (omega (arith, be-length 2 steps)) (way-wrote v w x (at + 2) (at + 36) r (omega arith) (omega arith) g d)
+      (path-bytes L t ∙ ap (λ i. be 2 i ++ wayBytes L t) (sym q))
+
+-- ---- nothing
+
+pub none-wrote : (L : Bits) (n : ℕ) (s o : Bytes) (at : ℕ) → n ≡ 0 → at + length (wayBytes L (build 256 (leavesIn n s))) ≤ length o → (at < length o) × Wrote o at (wayBytes L (build 256 (leavesIn n s))) (set o at 3) (at + 1)
+none-wrote L n s o at e h =
+    let q : wayBytes L (build 256 (leavesIn n s)) ≡ 3 ∷ [] = ap (wayBytes L) (bare n s e) ∙ W.none-bytes L ∙ none-bytes in
+    let l : at < length o = omega (arith, ap length q) in
+    (l, record { laid = pasted-one o at 3 l ∙ ap (pasted o at) (sym q); behind = omega (arith, ap length q) })

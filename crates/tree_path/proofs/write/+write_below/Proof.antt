@@ -2,7 +2,7 @@
 -- side, and the way on the label's side behind it. What is left of 256 bits falls.
 use borrow.Author.Needs.{needs}
 use native.Mathlib.Omega.{arith}
-use mathlib.Core.Path.{_≡_, sym, ap, ap₂, _∙_, subst}
+use mathlib.Core.Path.{_≡_, refl, sym, ap, ap₂, _∙_, subst}
 use mathlib.Core.Bool.{true, false}
 use mathlib.Core.List.{_++_}
 use Prim.Native.Nat.{ℕ, _+_, _-_, _*_, _<_}
@@ -272,7 +272,7 @@ module _ (t : ℕ) where
       let a = start w .args in
       let x : stepped .before .before .before .digest-at .result ≡ digest (top (low w)) =
       stepped .before .before .before .digest-at .ensures ∙ low-digest (a .n) (a .from) (a .s .now) (bits w) (left w) (start w .pre .1 .2) (cut w) (a .slots .now) (start w .pre .1 .4) in
-      way-wrote (label w) (whole w) (high w) (bits w) (digest (top (low w))) (digest-wide (nodeString (top (low w))) .size) (right-way (c .before .before .before .before .before .before .before .before .before .before .before .before)) (a .out .now) _ _ (a .at) _ (omega (arith, start w .pre .1 .6))
+      way-wrote (label w) (whole w) (high w) (bits w) (digest (top (low w))) (digest-wide (nodeString (top (low w))) .size) (right-way (c .before .before .before .before .before .before .before .before .before .before .before .before)) (a .out .now) _ _ (a .at) (a .at + 34) _ (omega (arith, start w .pre .1 .6)) refl
       (stepped .write-step .ensures ∙ ap (λ y. pasted (a .out .now) (a .at) (stepField .bytes (record { length = bits w; sibling = y }))) x) (c .before .before .write-below .ensures)
 
   left-way : (c : write-below-lts.Else3 claims Pre write-below.Post)
@@ -333,7 +333,7 @@ module _ (t : ℕ) where
       let a = start w .args in
       let x : stepped .before .before .before .digest-at2 .result ≡ digest (top (high w)) =
       stepped .before .before .before .digest-at2 .ensures ∙ high-digest (a .n) (a .from) (a .s .now) (bits w) (left w) (start w .pre .1 .2) (cut w) (a .slots .now) (start w .pre .1 .4) in
-      way-wrote (label w) (whole w) (low w) (bits w) (digest (top (high w))) (digest-wide (nodeString (top (high w))) .size) (left-way (c .before .before .before .before .before .before .before .before .before .before .before .before)) (a .out .now) _ _ (a .at) _ (omega (arith, start w .pre .1 .6))
+      way-wrote (label w) (whole w) (low w) (bits w) (digest (top (high w))) (digest-wide (nodeString (top (high w))) .size) (left-way (c .before .before .before .before .before .before .before .before .before .before .before .before)) (a .out .now) _ _ (a .at) (a .at + 34) _ (omega (arith, start w .pre .1 .6)) refl
       (stepped .write-step2 .ensures ∙ ap (λ y. pasted (a .out .now) (a .at) (stepField .bytes (record { length = bits w; sibling = y }))) x) (c .before .before .write-below2 .ensures)
 
 pub +write-below-spec : {M : Type 1} → statement M
