@@ -5,7 +5,7 @@ use mathlib.Core.List.{List, [], _∷_, _++_, append-nil, append-assoc}
 use Prim.Native.Nat.{ℕ, _+_, _-_, _*_, _≤_}
 use native.Mathlib.Omega.{arith}
 use lib.ListN.{length, take, drop, length-append, length-drop, drop-of-length-le}
-use lib.Seq.{length-take-le, take-append-add, drop-append-add, drop-drop, drop-at, take-at, take-take}
+use lib.Seq.{length-take-le, take-append-add, drop-append-add, drop-drop, drop-at, take-at}
 use Rattle.fips.specs.Sha256.{sha256}
 use Rattle.paper.specs.Bytes.{Bytes, pasted}
 use Rattle.paper.specs.Strings.{Node, inner, nodeString, nothingString}

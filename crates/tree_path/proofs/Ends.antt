@@ -1,10 +1,10 @@
 -- The bytes of steps, of ends and of a path, and how many they are. Assumes nothing.
 use mathlib.Core.Path.{_≡_, refl, sym, ap, ap₂, _∙_}
-use mathlib.Core.Bool.{Bool, true, false, cond}
-use mathlib.Core.List.{List, [], _∷_, _++_, append-nil, append-assoc}
-use Prim.Native.Nat.{ℕ, zero, suc, _+_, _-_, _*_, _≤_}
+use mathlib.Core.Bool.{true, false}
+use mathlib.Core.List.{List, [], _∷_, _++_}
+use Prim.Native.Nat.{ℕ, zero, suc, _+_, _*_, _≤_}
 use native.Mathlib.Omega.{arith}
-use lib.ListN.{length, take, drop, length-append, length-drop}
+use lib.ListN.{length, take, drop, length-append}
 use lib.Seq.{length-take-le, take-add, drop-drop}
 use Rattle.paper.specs.Lists.{All}
 use Rattle.paper.specs.Numbers.{wide}
@@ -17,7 +17,7 @@ use Rattle.paper.specs.Layout.{block, fixed, within, seq, led, times, timesByte
 use Rattle.paper.specs.Fields.{endKind, endOf, endField, stepField, pathField}
 use Rattle.paper.proofs.Lists.{all-take, all-drop}
 use Rattle.paper.proofs.Bytes.{be-length, be-number, pack-length, pack-bitsOf}
-use Rattle.paper.proofs.Fits.{step-fits, PathFits, path-fits}
+use Rattle.paper.proofs.Fits.{step-fits, path-fits}
 use Rattle.words.proofs.Pasted.{length-part}
 use Rattle.tree_path.specs.Written.{endSize, endBytes, wayBytes}
 

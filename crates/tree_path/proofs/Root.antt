@@ -1,5 +1,5 @@
 -- The sides of a stored root, as the way from the root on finds them. Assumes nothing.
-use mathlib.Core.Path.{_≡_, refl, sym, ap, ap₂, _∙_, subst}
+use mathlib.Core.Path.{_≡_, refl, sym, ap, _∙_, subst}
 use mathlib.Core.Bool.{true, false}
 use mathlib.Core.List.{_++_}
 use Prim.Native.Nat.{ℕ, _-_, _*_, _≤_}
@@ -8,7 +8,7 @@ use lib.ListN.{length, take, drop, getD, length-take}
 use Rattle.paper.specs.Bytes.{Bytes}
 use Rattle.paper.specs.Bits.{Bits}
 use Rattle.paper.specs.Strings.{nodeString}
-use Rattle.paper.specs.Tree.{digest, Tree, top, build, root}
+use Rattle.paper.specs.Tree.{Tree, top, build, root}
 use Rattle.paper.specs.Fields.{stepField}
 use Rattle.paper.specs.Level.{leavesIn}
 use Rattle.paper.proofs.Fits.{digest-wide}

@@ -1,18 +1,17 @@
 -- A label's way at a leaf, at a fork and at the root, and that it has few steps. Assumes nothing.
-use mathlib.Core.Path.{_≡_, refl, sym, ap, ap₂, _∙_, subst}
+use mathlib.Core.Path.{_≡_, refl, sym, ap, ap₂, _∙_}
 use mathlib.Core.Bool.{Bool, true, false, cond}
-use mathlib.Core.List.{List, [], _∷_, _++_, append-assoc}
-use Prim.Native.Nat.{ℕ, zero, suc, _+_, _*_, _-_, _≤_, _<_}
+use mathlib.Core.List.{[], _∷_, _++_, append-assoc}
+use Prim.Native.Nat.{ℕ, zero, suc, _+_, _≤_}
 use native.Mathlib.Omega.{arith}
 use native.Mathlib.Numerals.{add-one}
-use lib.ListN.{length, take, drop, getD}
+use lib.ListN.{length, take, getD}
 use lib.Seq.{length-take-le}
-use Rattle.paper.specs.Lists.{All}
 use Rattle.paper.specs.Bytes.{Bytes}
-use Rattle.paper.specs.Bits.{Bits, Pfx, starts, bitsOf}
+use Rattle.paper.specs.Bits.{Bits, starts, bitsOf}
 use Rattle.paper.specs.Strings.{Node}
-use Rattle.paper.specs.Tree.{key, digest, Tree, empty, one, fork, top, build, root}
-use Rattle.paper.specs.Path.{End, off, none, sameBits, endAt, waySteps, wayEnd}
+use Rattle.paper.specs.Tree.{key, digest, Tree, empty, one, fork, top, build}
+use Rattle.paper.specs.Path.{off, none, sameBits, endAt, waySteps, wayEnd}
 use Rattle.paper.specs.Layout.{timesBytes}
 use Rattle.paper.specs.Fields.{endKind, stepField}
 use Rattle.paper.specs.Level.{entryLeaf, leavesIn}

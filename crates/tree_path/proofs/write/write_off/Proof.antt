@@ -1,7 +1,7 @@
 -- `tree_path::write_off`: kind, prefix length, prefix and the two digests, one right behind the other.
 use borrow.Author.Needs.{needs}
 use native.Mathlib.Omega.{arith}
-use mathlib.Core.Path.{_≡_, ap, _∙_}
+use mathlib.Core.Path.{ap, _∙_}
 use Prim.Native.Nat.{_+_}
 use lib.ListN.{take, length-set}
 use Rattle.paper.specs.Bytes.{pasted}

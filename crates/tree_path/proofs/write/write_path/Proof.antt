@@ -1,7 +1,7 @@
 -- `tree_path::write_path`: the count, the root's step, and the way on the label's side behind it.
 use borrow.Author.Needs.{needs}
 use native.Mathlib.Omega.{arith}
-use mathlib.Core.Path.{_≡_, sym, ap, _∙_}
+use mathlib.Core.Path.{sym, ap, _∙_}
 use Prim.Native.Nat.{_-_, _*_, _≤_}
 use lib.ListN.{length, length-append}
 use lib.Seq.{length-take-le}

@@ -1,9 +1,8 @@
 -- `tree_path::write_step`: the sibling lies right behind the length.
 use borrow.Author.Needs.{needs}
 use native.Mathlib.Omega.{arith}
-use mathlib.Core.Path.{_≡_, sym, ap, _∙_}
+use mathlib.Core.Path.{sym, ap, _∙_}
 use Prim.Native.Nat.{_+_}
-use lib.ListN.{length}
 use Rattle.paper.specs.Bytes.{be, pasted}
 use Rattle.paper.proofs.Bytes.{be-length}
 use Rattle.tree_path.proofs.Ends.{step-bytes}
