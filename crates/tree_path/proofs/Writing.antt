@@ -7,17 +7,15 @@ use lib.ListN.{length, take, drop, set, length-append, take-append-drop}
 use Rattle.paper.specs.Numbers.{wide}
 use Rattle.paper.specs.Bytes.{Bytes, be, pasted}
 use Rattle.paper.specs.Bits.{Bits, pack}
-use Rattle.paper.specs.Tree.{digest, Tree, top, build}
-use Rattle.paper.specs.Strings.{nodeString}
+use Rattle.paper.specs.Tree.{Tree, build}
 use Rattle.paper.specs.Path.{off, waySteps, way}
 use Rattle.paper.specs.Fields.{stepField, pathField}
 use Rattle.paper.specs.Level.{leavesIn}
 use Rattle.paper.proofs.Bytes.{be-length, pack-length}
-use Rattle.paper.proofs.Fits.{digest-wide}
 use Rattle.words.proofs.Pasted.{pasted-one, pasted-pasted}
 use Rattle.tree_path.specs.Written.{endBytes, wayBytes, Wrote}
 use Rattle.tree_path.proofs.Ends.{step-bytes, path-bytes, off-bytes, none-bytes}
-use Rattle.tree_path.proofs.Ways.{bare}
+use Rattle.tree.proofs.Leaves.{bare}
 use Rattle.tree_path.proofs.Ways as W
 
 -- y behind x
@@ -50,10 +48,6 @@ off-wrote o a b c slot at k p h n l ea eb ec =
       laid = laid-next o b c (2 ∷ (be 2 k ++ pack wide p)) slot at (at + 35) (omega arith) second (omega arith) ec ∙ ap (pasted o at) whole;
       behind = omega (arith, length-append (be 2 k ++ pack wide p) slot, ap length whole);
     }
-
--- the digests of both sides fill a slot
-pub both-wide : (l r : Tree) → length (digest (top l) ++ digest (top r)) ≡ 64
-both-wide l r = omega (arith, length-append (digest (top l)) (digest (top r)), digest-wide (nodeString (top l)) .size, digest-wide (nodeString (top r)) .size)
 
 -- ---- a step, and the way behind it
 

@@ -17,12 +17,14 @@ use Rattle.paper.specs.Path.{off, endAt}
 use Rattle.paper.specs.Fields.{stepField}
 use Rattle.paper.specs.Level.{entryLeaf, leavesIn}
 use Rattle.paper.proofs.Fits.{digest-wide}
+use Rattle.tree.proofs.Leaves.{single}
+use Rattle.tree.proofs.Slots.{slot-wide}
 use Rattle.tree.proofs.Halves.{before, behind, Halves, halves, before-sorted, behind-sorted}
 use Rattle.tree.proofs.Flat.{slots-size, low-slots, the-slot, high-slots, low-digest, high-digest}
 use Rattle.tree_path.specs.Written.{endBytes, wayBytes, Wrote}
-use Rattle.tree_path.proofs.Ways.{single, one-bytes, off-bytes, turn-bytes, prefix-size}
+use Rattle.tree_path.proofs.Ways.{one-bytes, off-bytes, turn-bytes, prefix-size}
 use Rattle.tree_path.proofs.Ends.{off-long}
-use Rattle.tree_path.proofs.Writing.{both-wide, way-long, way-wrote}
+use Rattle.tree_path.proofs.Writing.{way-long, way-wrote}
 use borrow.Fn.Kinds.{In}
 use borrow.Fn.PlainCycle.{Measures, is, falls, and}
 use Rattle.tree_path.proofs.write.write_below.Reads as write-below
@@ -174,7 +176,7 @@ module _ (t : ℕ) where
   write-off-requires c κs =
       let w = c .before .before .before .before in
       let h = cut w in
-      let l = both-wide (low w) (high w) in (
+      let l = slot-wide (low w) (high w) in (
         omega (arith, h .less, start w .pre .1 .2 .size),
         omega (arith, h .small),
         ap length (slot w) ∙ l,
