@@ -22,7 +22,7 @@ use Rattle.tree_path.proofs.Ways as W
 pub laid-next : (o v u x y : Bytes) (at mid : ℕ) → at ≤ length o → v ≡ pasted o at x → mid ≡ at + length x → u ≡ pasted v mid y → u ≡ pasted o at (x ++ y)
 laid-next o v u x y at mid h e f g = g ∙ ap₂ (λ d i. pasted d i y) e f ∙ pasted-pasted o at x y h
 
-pub wrote-next : (o v u x y z : Bytes) (at mid r : ℕ) → at ≤ length o → v ≡ pasted o at x → mid ≡ at + length x → Wrote v mid y u r → z ≡ x ++ y → Wrote o at z u r
+wrote-next : (o v u x y z : Bytes) (at mid r : ℕ) → at ≤ length o → v ≡ pasted o at x → mid ≡ at + length x → Wrote v mid y u r → z ≡ x ++ y → Wrote o at z u r
 wrote-next o v u x y z at mid r h e f g q = record {
   laid = laid-next o v u x y at mid h e f (g .laid) ∙ ap (pasted o at) (sym q);
   behind = g .behind ∙ omega (arith, length-append x y, ap length q);
@@ -51,7 +51,7 @@ off-wrote o a b c slot at k p h n l ea eb ec =
 
 -- ---- a step, and the way behind it
 
-pub step-long : (k : ℕ) (sibling : Bytes) → length sibling ≡ 32 → length (stepField .bytes (record { length = k; sibling = sibling })) ≡ 34
+step-long : (k : ℕ) (sibling : Bytes) → length sibling ≡ 32 → length (stepField .bytes (record { length = k; sibling = sibling })) ≡ 34
 step-long k sibling h = ap length (step-bytes k sibling) ∙ omega (arith, length-append (be 2 k) sibling, be-length 2 k)
 
 module _ (L : Bits) (t u : Tree) (k : ℕ) (sibling : Bytes) (size : length sibling ≡ 32) (e : wayBytes L t ≡ stepField .bytes (record { length = k; sibling = sibling }) ++ wayBytes L u) where
