@@ -21,7 +21,7 @@ use Rattle.table.proofs.Last.{last-none, last-yes, last-no}
 
 -- ---- lists with one more at the end
 
-every-snoc : {A : Type 0} (t : A → Bool) (l : List A) (x : A) → every t (l ++ (x ∷ [])) ≡ (every t l && t x)
+pub every-snoc : {A : Type 0} (t : A → Bool) (l : List A) (x : A) → every t (l ++ (x ∷ [])) ≡ (every t l && t x)
 unfolding every
 every-snoc t [] x = and-true (t x)
 every-snoc t (a ∷ l) x = ap (λ b. t a && b) (every-snoc t l x) ∙ sym (and-assoc (t a) (every t l) (t x))

@@ -22,7 +22,7 @@ use Rattle.tree_path.proofs.Ways as W
 pub laid-next : (o v u x y : Bytes) (at mid : ℕ) → at ≤ length o → v ≡ pasted o at x → mid ≡ at + length x → u ≡ pasted v mid y → u ≡ pasted o at (x ++ y)
 laid-next o v u x y at mid h e f g = g ∙ ap₂ (λ d i. pasted d i y) e f ∙ pasted-pasted o at x y h
 
-wrote-next : (o v u x y z : Bytes) (at mid r : ℕ) → at ≤ length o → v ≡ pasted o at x → mid ≡ at + length x → Wrote v mid y u r → z ≡ x ++ y → Wrote o at z u r
+pub wrote-next : (o v u x y z : Bytes) (at mid r : ℕ) → at ≤ length o → v ≡ pasted o at x → mid ≡ at + length x → Wrote v mid y u r → z ≡ x ++ y → Wrote o at z u r
 wrote-next o v u x y z at mid r h e f g q = record {
   laid = laid-next o v u x y at mid h e f (g .laid) ∙ ap (pasted o at) (sym q);
   behind = g .behind ∙ omega (arith, length-append x y, ap length q);
