@@ -2,3 +2,4 @@
 pub mod Tests
 pub mod Made
 pub mod Started
+pub mod Prepared

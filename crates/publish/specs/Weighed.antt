@@ -9,13 +9,14 @@ use Rattle.paper.specs.Lists.{every}
 use Rattle.paper.specs.Numbers.{wide, versionMost, recordSize, recordsMost, updateSize}
 use Rattle.paper.specs.Bytes.{Bytes, be, pasted}
 use Rattle.paper.specs.Labelling.{plain}
-use Rattle.paper.specs.Layout.{timesBytes}
-use Rattle.paper.specs.Table.{Record, recordField}
+use Rattle.paper.specs.Layout.{timesBytes, inLayout}
+use Rattle.paper.specs.Table.{Record, recordField, updateField}
 use Rattle.paper.specs.Publish.{Published, newRecord, unpublished, publish}
 use Rattle.paper.specs.declared.State.{State}
 use Rattle.paper.specs.declared.PublishAnswer.the-variants as P
 use Rattle.record.specs.Places.{recordsIn, Stands}
-use Rattle.batch.specs.Places.{updatesIn}
+use Rattle.table.specs.Index.{Indexed}
+use Rattle.batch.specs.Places.{updateAt, updatesIn}
 use Rattle.publish.specs.declared.Weighed.{Weighed}
 
 -- "An update has 162 bytes: a record without version and epoch.": the record's bytes, from the update's
@@ -25,6 +26,16 @@ recordOver u version epoch = take 65 u ++ (be 2 version ++ (be 4 epoch ++ take 9
 -- the records that n updates become at an epoch, behind the counted ones
 abbrev pub newRecords : Bytes → ℕ → ℕ → Bytes → ℕ → List Record
 newRecords records count epoch batch n = map (newRecord plain (recordsIn count records) epoch) (updatesIn n batch)
+
+-- the table's records are indexed, and each update of the batch is in layout
+pub record Ready (records : Bytes) (count : ℕ) (first next : List ℕ) (batch : Bytes) : Type 0 where
+  pub index : Indexed records count first next
+  pub formed : (i : ℕ) → suc i * updateSize ≤ length batch → inLayout (updateField .read (drop (i * updateSize) batch)) ≡ true
+
+-- whether the record that update i becomes has a version, and then its bytes are laid over place i
+pub record Next (records : Bytes) (count : ℕ) (batch : Bytes) (i epoch : ℕ) (before after : Bytes) (r : Bool) : Type 0 where
+  pub is : r ≡ leb (newRecord plain (recordsIn count records) epoch (updateAt batch i) .version) versionMost
+  pub bytes : r ≡ true → after ≡ pasted before (i * recordSize) (recordOver (drop (i * updateSize) batch) (newRecord plain (recordsIn count records) epoch (updateAt batch i) .version) epoch)
 
 -- whether no name is at 1,023 already, and then the bytes of the new records
 pub record Prepared (records : Bytes) (count epoch : ℕ) (batch : Bytes) (n : ℕ) (fresh : Bytes) (r : Bool) : Type 0 where
