@@ -14,7 +14,7 @@ use Rattle.paper.specs.Bytes.{Bytes, same}
 use Rattle.paper.specs.Labelling.{Labelling, plain, sameName}
 use Rattle.paper.specs.Table.{Update}
 use Rattle.paper.specs.Publish.{once}
-use Rattle.paper.proofs.Lists.{upFrom-length, upFrom-snoc, getD-upFrom, in-map, in-upFrom}
+use Rattle.paper.proofs.Lists.{upFrom-length, upFrom-snoc, getD-upFrom, in-map, map-in, in-upFrom, upFrom-in}
 use Rattle.words.proofs.Pasted.{part-is}
 use Rattle.batch.specs.Places.{updateIn, updateAt, updatesIn, bearsFrom, Lies}
 
@@ -37,6 +37,12 @@ updates-getD n s i d h = getD-upFrom (updateAt s) d 0 n i h ∙ ap (updateAt s) 
 pub updates-in : (n : ℕ) (s : Bytes) (i : ℕ) → i < n → updateAt s i ∈ updatesIn n s
 unfolding updatesIn
 updates-in n s i h = in-map (updateAt s) (upFrom 0 n) i (in-upFrom 0 n i (omega arith) (omega arith))
+
+pub in-updates : (n : ℕ) (s : Bytes) (u : Update) → u ∈ updatesIn n s → (i : ℕ) × (i < n) × (u ≡ updateAt s i)
+unfolding updatesIn
+in-updates n s u m =
+    let (i, k, e) = map-in (updateAt s) (upFrom 0 n) u m in
+    (i, omega (arith, upFrom-in 0 n i k .1), e)
 
 pub updates-snoc : (n : ℕ) (s : Bytes) → updatesIn (suc n) s ≡ updatesIn n s ++ (updateAt s n ∷ [])
 unfolding updatesIn

@@ -3,3 +3,4 @@ pub mod Tests
 pub mod Made
 pub mod Started
 pub mod Prepared
+pub mod Weighing

@@ -1,17 +1,17 @@
 -- What is found out about a batch before anything is written.
 use mathlib.Core.Path.{_≡_}
-use mathlib.Core.Bool.{Bool, true, false}
+use mathlib.Core.Bool.{Bool, true, false, _&&_}
 use mathlib.Core.List.{List, [], _∷_, _++_, map}
 use Prim.Native.Nat.{ℕ, suc, _+_, _*_, _/_, _≤_, _<_}
 use lib.Dec.{leb}
 use lib.ListN.{length, take, drop}
 use Rattle.paper.specs.Lists.{every}
-use Rattle.paper.specs.Numbers.{wide, versionMost, recordSize, recordsMost, updateSize}
-use Rattle.paper.specs.Bytes.{Bytes, be, pasted}
+use Rattle.paper.specs.Numbers.{wide, versionMost, recordSize, recordsMost, updateSize, CLASH}
+use Rattle.paper.specs.Bytes.{Bytes, be, zeros, pasted}
 use Rattle.paper.specs.Labelling.{plain}
-use Rattle.paper.specs.Layout.{timesBytes, inLayout}
-use Rattle.paper.specs.Table.{Record, recordField, updateField}
-use Rattle.paper.specs.Publish.{Published, newRecord, unpublished, publish}
+use Rattle.paper.specs.Layout.{times, timesBytes, parse, inLayout}
+use Rattle.paper.specs.Table.{Record, recordField, updateField, recordsWithin, headsWithin, distinct, allAt, oldAt, headDigest}
+use Rattle.paper.specs.Publish.{Published, newRecord, batchWithin, unpublished, publish}
 use Rattle.paper.specs.declared.State.{State}
 use Rattle.paper.specs.declared.PublishAnswer.the-variants as P
 use Rattle.record.specs.Places.{recordsIn, Stands}
@@ -47,6 +47,23 @@ pub record Plantable (records : Bytes) (count : ℕ) (fresh : Bytes) (n : ℕ) :
   pub stand : (i : ℕ) → i < count → Stands records i
   pub new : (i : ℕ) → i < n → Stands fresh i
   pub few : count + n ≤ recordsMost
+
+-- "an argument breaks the bounds or an update's layout": whether none does
+unfoldable pub inputGood : Bytes → Bytes → Bytes → Bool
+inputGood records heads batch = (recordsWithin records && (headsWithin heads && batchWithin batch)) && inLayout (parse (times (length batch / updateSize) updateField) batch)
+
+-- a refusal has no head
+abbrev pub refusedBy : ℕ → Weighed
+refusedBy n = record { number = n; head = zeros wide }
+
+-- "two leaves of a needed tree share a label": whether none do in either tree of the next epoch
+abbrev pub apart : ℕ → List Record → Bool
+apart epoch rs = distinct (allAt plain (suc epoch) rs) && distinct (oldAt plain (suc epoch) rs)
+
+-- number 7, or 0 and the next epoch's head
+pub record Headed (heads : Bytes) (epoch : ℕ) (rs : List Record) (r : Weighed) : Type 0 where
+  pub clash : ¬ (r .number ≡ 0) → (r .number ≡ CLASH) × (apart epoch rs ≡ false)
+  pub clear : r .number ≡ 0 → (apart epoch rs ≡ true) × (r .head ≡ headDigest plain heads (suc epoch) rs)
 
 -- what publishing leaves, from the new records' bytes and the new head
 abbrev pub leaving : Bytes → Bytes → State → ℕ → Bytes → Bytes → Published
