@@ -20,7 +20,7 @@ ghost use Rattle.paper.specs.Tree.{key, build, root};
 ghost use Rattle.paper.specs.Path as P;
 ghost use Rattle.paper.specs.Fields.{stepField, pathField};
 ghost use Rattle.paper.specs.Level.{entryLeaf, leavesIn};
-ghost use Rattle.tree.specs.Stored.{flat, Sorted, Range, Stored};
+ghost use Rattle.tree.specs.Stored.{flat, Sorted, Range, Part, Stored};
 ghost use Rattle.tree_path.specs.Written.{endBytes, wayBytes, Wrote};
 
 // "prefix length (2) and sibling digest (32)"
@@ -76,7 +76,7 @@ fn write_below(
     out: &mut [u8],
     at: usize,
 ) -> usize
-    requires { ⌜ (1 ≤ n) × (1 ≤ from) × Sorted n (now s) × Range from (leavesIn n (now s)) × (now slots ≡ flat (build 256 (leavesIn n (now s)))) × (length (now label) ≡ 32) × (at + length (wayBytes (bitsOf (now label)) (build 256 (leavesIn n (now s)))) ≤ length (now out)) ⌝ }
+    requires { ⌜ Part n from (now s) × (now slots ≡ flat (build 256 (leavesIn n (now s)))) × (length (now label) ≡ 32) × (at + length (wayBytes (bitsOf (now label)) (build 256 (leavesIn n (now s)))) ≤ length (now out)) ⌝ }
     ensures { λ r. ⌜ Wrote (now (out .entry)) at (wayBytes (bitsOf (now (label .entry))) (build 256 (leavesIn n (now (s .entry))))) (now (out .exit)) r ⌝ }
 {
     if n == 1 {

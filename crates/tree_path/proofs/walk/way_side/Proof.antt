@@ -15,7 +15,7 @@ returns c =
     sym (ap (wayOf (bitsOf (a .label .now))) (bare (a .n) (a .s .now) (c .if1 .taken)) ∙ none-way (bitsOf (a .label .now)))
 
 way-below-requires : tie.Need-way-below-requires
-way-below-requires c κs = let start = c .before .before .before in (omega arith, omega arith, start .pre .0, start .pre .1, start .pre .2)
+way-below-requires c κs = let start = c .before .before .before in (record { some = omega arith; deep = omega arith; sorted = start .pre .0; range = start .pre .1 }, start .pre .2)
 
 returns-2 : tie.Need-returns-2
 returns-2 c = search needs

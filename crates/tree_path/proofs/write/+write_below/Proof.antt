@@ -80,7 +80,7 @@ module _ (t : ℕ) where
       let e = c .before .if1 .taken in
       let q : wayBytes (bitsOf (a .label .now)) (build 256 (leavesIn (a .n) (a .s .now))) ≡ endBytes (endAt (bitsOf (a .label .now)) (entryLeaf (a .s .now))) =
       ap (wayBytes (bitsOf (a .label .now))) (single (a .n) (a .s .now) e) ∙ one-bytes (bitsOf (a .label .now)) (entryLeaf (a .s .now)) in
-      (omega (arith, start .pre .1 .2 .size), start .pre .1 .5, omega (arith, start .pre .1 .6, ap length q))
+      (omega (arith, start .pre .1 .0 .sorted .size), start .pre .1 .2, omega (arith, start .pre .1 .3, ap length q))
 
   same-length : write-below-lts.Need-same-length claims Pre write-below.Post
   same-length c = c .before .before .write-leaf .kept .1 .1 .0
@@ -94,7 +94,7 @@ module _ (t : ℕ) where
       subst (λ x. Wrote (a .out .now) (a .at) x (c .before .before .write-leaf .last .1 .1 .0) (c .before .before .write-leaf .result)) (sym q) (c .before .before .write-leaf .ensures)
 
   fork-of-requires : write-below-lts.Need-fork-of-requires claims Pre write-below.Post
-  fork-of-requires c κs = let start = c .before .before .before .before .before in (omega (arith, start .pre .1 .0), start .pre .1 .2)
+  fork-of-requires c κs = let start = c .before .before .before .before .before in (omega (arith, start .pre .1 .0 .some), start .pre .1 .0 .sorted)
 
   abbrev start : write-below-lts.After-fork-of claims Pre write-below.Post → write-below-lts.Start claims Pre write-below.Post
   start c = c .before .before .before .before .before .before
@@ -109,19 +109,19 @@ module _ (t : ℕ) where
   cut : (c : write-below-lts.After-fork-of claims Pre write-below.Post) → Halves (start c .args .n) (start c .args .from) (start c .args .s .now) (bits c) (left c)
   cut c =
       let a = start c .args in
-      let h = start c .pre .1 in
-      halves (a .n) (a .from) (a .s .now) (bits c) (left c) (h .2) (h .1) (h .3) (c .fork-of .ensures)
+      let h = start c .pre .1 .0 in
+      halves (a .n) (a .from) (a .s .now) (bits c) (left c) (h .sorted) (h .deep) (h .range) (c .fork-of .ensures)
 
   slotted : (c : write-below-lts.After-fork-of claims Pre write-below.Post) → length (start c .args .slots .now) ≡ (start c .args .n - 1) * 64
   slotted c =
       let a = start c .args in
-      slots-size (a .n) (a .from) (a .s .now) (bits c) (left c) (start c .pre .1 .2) (cut c) (a .slots .now) (start c .pre .1 .4)
+      slots-size (a .n) (a .from) (a .s .now) (bits c) (left c) (start c .pre .1 .0 .sorted) (cut c) (a .slots .now) (start c .pre .1 .1)
 
   abbrev prefix : write-below-lts.After-fork-of claims Pre write-below.Post → Bits
   prefix c = take (bits c) (key (entryLeaf (start c .args .s .now)))
 
   size : (c : write-below-lts.After-fork-of claims Pre write-below.Post) → length (prefix c) ≡ bits c
-  size c = let h = cut c in prefix-size (start c .args .s .now) (bits c) (omega (arith, h .less, start c .pre .1 .2 .size)) (omega (arith, h .small))
+  size c = let h = cut c in prefix-size (start c .args .s .now) (bits c) (omega (arith, h .less, start c .pre .1 .0 .sorted .size)) (omega (arith, h .small))
 
   -- the label, the tree, and its two sides
   abbrev label : write-below-lts.After-fork-of claims Pre write-below.Post → Bits
@@ -137,25 +137,25 @@ module _ (t : ℕ) where
   high c = build 256 (leavesIn (start c .args .n - left c) (behind (left c) (start c .args .s .now)))
 
   sub-slot : write-below-lts.Need-sub-slot claims Pre write-below.Post
-  sub-slot c = let h = cut c in omega (arith, h .small, h .least, h .less, start c .pre .1 .2 .size, slotted c)
+  sub-slot c = let h = cut c in omega (arith, h .small, h .least, h .less, start c .pre .1 .0 .sorted .size, slotted c)
 
   mul-slot : write-below-lts.Need-mul-slot claims Pre write-below.Post
-  mul-slot c = let h = cut c in omega (arith, h .small, h .least, h .less, start c .pre .1 .2 .size, slotted c)
+  mul-slot c = let h = cut c in omega (arith, h .small, h .least, h .less, start c .pre .1 .0 .sorted .size, slotted c)
 
   mul-behind : write-below-lts.Need-mul-behind claims Pre write-below.Post
-  mul-behind c = let h = cut c in omega (arith, h .small, h .least, h .less, start c .pre .1 .2 .size, slotted c)
+  mul-behind c = let h = cut c in omega (arith, h .small, h .least, h .less, start c .pre .1 .0 .sorted .size, slotted c)
 
   has-prefix-requires : write-below-lts.Need-has-prefix-requires claims Pre write-below.Post
-  has-prefix-requires c κs = let h = cut c in (omega (arith, h .less, start c .pre .1 .2 .size), omega (arith, h .small), start c .pre .1 .5)
+  has-prefix-requires c κs = let h = cut c in (omega (arith, h .less, start c .pre .1 .0 .sorted .size), omega (arith, h .small), start c .pre .1 .2)
 
   sub-write-off : write-below-lts.Need-sub-write-off claims Pre write-below.Post
-  sub-write-off c = let h = cut (c .before .before) in omega (arith, h .small, h .least, h .less, start (c .before .before) .pre .1 .2 .size, slotted (c .before .before))
+  sub-write-off c = let h = cut (c .before .before) in omega (arith, h .small, h .least, h .less, start (c .before .before) .pre .1 .0 .sorted .size, slotted (c .before .before))
 
   part-write-off-start : write-below-lts.Need-part-write-off-start claims Pre write-below.Post
-  part-write-off-start c = let h = cut (c .before .before) in omega (arith, h .small, h .least, h .less, start (c .before .before) .pre .1 .2 .size, slotted (c .before .before))
+  part-write-off-start c = let h = cut (c .before .before) in omega (arith, h .small, h .least, h .less, start (c .before .before) .pre .1 .0 .sorted .size, slotted (c .before .before))
 
   part-write-off-end : write-below-lts.Need-part-write-off-end claims Pre write-below.Post
-  part-write-off-end c = let h = cut (c .before .before) in omega (arith, h .small, h .least, h .less, start (c .before .before) .pre .1 .2 .size, slotted (c .before .before))
+  part-write-off-end c = let h = cut (c .before .before) in omega (arith, h .small, h .least, h .less, start (c .before .before) .pre .1 .0 .sorted .size, slotted (c .before .before))
 
   -- the label has not the prefix
   off-way : (c : write-below-lts.Then2 claims Pre write-below.Post)
@@ -170,17 +170,17 @@ module _ (t : ℕ) where
       let a = start c .args in
       let e : left c * 64 - (left c - 1) * 64 ≡ 64 = omega (arith, cut c .least) in
       ap (λ i. take i (drop ((left c - 1) * 64) (a .slots .now))) e
-      ∙ the-slot (a .n) (a .from) (a .s .now) (bits c) (left c) (start c .pre .1 .2) (cut c) (a .slots .now) (start c .pre .1 .4)
+      ∙ the-slot (a .n) (a .from) (a .s .now) (bits c) (left c) (start c .pre .1 .0 .sorted) (cut c) (a .slots .now) (start c .pre .1 .1)
 
   write-off-requires : write-below-lts.Need-write-off-requires claims Pre write-below.Post
   write-off-requires c κs =
       let w = c .before .before .before .before in
       let h = cut w in
       let l = slot-wide (low w) (high w) in (
-        omega (arith, h .less, start w .pre .1 .2 .size),
+        omega (arith, h .less, start w .pre .1 .0 .sorted .size),
         omega (arith, h .small),
         ap length (slot w) ∙ l,
-        omega (arith, start w .pre .1 .6, ap length (off-way (c .before .before)), off-long (prefix w) (digest (top (low w))) (digest (top (high w))), length-append (digest (top (low w))) (digest (top (high w))), l),
+        omega (arith, start w .pre .1 .3, ap length (off-way (c .before .before)), off-long (prefix w) (digest (top (low w))) (digest (top (high w))), length-append (digest (top (low w))) (digest (top (high w))), l),
       )
 
   same-length-2 : write-below-lts.Need-same-length-2 claims Pre write-below.Post
@@ -198,7 +198,7 @@ module _ (t : ℕ) where
       subst (λ z. Wrote (a .out .now) (a .at) z (c .before .before .write-off .last .1 .1 .1 .0) (c .before .before .write-off .result)) q (c .before .before .write-off .ensures)
 
   mul-middle : write-below-lts.Need-mul-middle claims Pre write-below.Post
-  mul-middle c = let h = cut (c .before .before) in omega (arith, h .small, h .least, h .less, start (c .before .before) .pre .1 .2 .size, slotted (c .before .before))
+  mul-middle c = let h = cut (c .before .before) in omega (arith, h .small, h .least, h .less, start (c .before .before) .pre .1 .0 .sorted .size, slotted (c .before .before))
 
   label-bit-requires : write-below-lts.Need-label-bit-requires claims Pre write-below.Post
   label-bit-requires c κs = search needs
@@ -212,39 +212,39 @@ module _ (t : ℕ) where
       turn-bytes (label w) _ _ _ _ (cut w .tree) (bits w) (size w) begun true (sym (c .before .label-bit .ensures) ∙ c .if3 .taken)
 
   digest-at-requires : write-below-lts.Need-digest-at-requires claims Pre write-below.Post
-  digest-at-requires c κs = let h = cut (c .before .before .before .before) in omega (arith, h .small, h .least, h .less, start (c .before .before .before .before) .pre .1 .2 .size, slotted (c .before .before .before .before))
+  digest-at-requires c κs = let h = cut (c .before .before .before .before) in omega (arith, h .small, h .least, h .less, start (c .before .before .before .before) .pre .1 .0 .sorted .size, slotted (c .before .before .before .before))
 
   write-step-requires : write-below-lts.Need-write-step-requires claims Pre write-below.Post
   write-step-requires c κs =
       let w = c .before .before .before .before .before .before .before in
-      (omega (arith, start w .pre .1 .6, way-long (label w) (whole w) (high w) (bits w) (digest (top (low w))) (digest-wide (nodeString (top (low w))) .size) (right-way (c .before .before .before))), omega (arith, cut w .small))
+      (omega (arith, start w .pre .1 .3, way-long (label w) (whole w) (high w) (bits w) (digest (top (low w))) (digest-wide (nodeString (top (low w))) .size) (right-way (c .before .before .before))), omega (arith, cut w .small))
 
   sub-write-below : write-below-lts.Need-sub-write-below claims Pre write-below.Post
-  sub-write-below c = let h = cut (c .before .before .before .before .before .before .before .before .before .before) in omega (arith, h .small, h .least, h .less, start (c .before .before .before .before .before .before .before .before .before .before) .pre .1 .2 .size, slotted (c .before .before .before .before .before .before .before .before .before .before))
+  sub-write-below c = let h = cut (c .before .before .before .before .before .before .before .before .before .before) in omega (arith, h .small, h .least, h .less, start (c .before .before .before .before .before .before .before .before .before .before) .pre .1 .0 .sorted .size, slotted (c .before .before .before .before .before .before .before .before .before .before))
 
   part-write-below-start : write-below-lts.Need-part-write-below-start claims Pre write-below.Post
-  part-write-below-start c = let h = cut (c .before .before .before .before .before .before .before .before .before .before) in omega (arith, h .small, h .least, h .less, start (c .before .before .before .before .before .before .before .before .before .before) .pre .1 .2 .size, slotted (c .before .before .before .before .before .before .before .before .before .before))
+  part-write-below-start c = let h = cut (c .before .before .before .before .before .before .before .before .before .before) in omega (arith, h .small, h .least, h .less, start (c .before .before .before .before .before .before .before .before .before .before) .pre .1 .0 .sorted .size, slotted (c .before .before .before .before .before .before .before .before .before .before))
 
   part-write-below-end : write-below-lts.Need-part-write-below-end claims Pre write-below.Post
   part-write-below-end c = search needs
 
   sub-write-below-2 : write-below-lts.Need-sub-write-below-2 claims Pre write-below.Post
-  sub-write-below-2 c = let h = cut (c .before .before .before .before .before .before .before .before .before .before .before) in omega (arith, h .small, h .least, h .less, start (c .before .before .before .before .before .before .before .before .before .before .before) .pre .1 .2 .size, slotted (c .before .before .before .before .before .before .before .before .before .before .before))
+  sub-write-below-2 c = let h = cut (c .before .before .before .before .before .before .before .before .before .before .before) in omega (arith, h .small, h .least, h .less, start (c .before .before .before .before .before .before .before .before .before .before .before) .pre .1 .0 .sorted .size, slotted (c .before .before .before .before .before .before .before .before .before .before .before))
 
   add-write-below : write-below-lts.Need-add-write-below claims Pre write-below.Post
-  add-write-below c = let h = cut (c .before .before .before .before .before .before .before .before .before .before .before) in omega (arith, h .small, h .least, h .less, start (c .before .before .before .before .before .before .before .before .before .before .before) .pre .1 .2 .size, slotted (c .before .before .before .before .before .before .before .before .before .before .before))
+  add-write-below c = let h = cut (c .before .before .before .before .before .before .before .before .before .before .before) in omega (arith, h .small, h .least, h .less, start (c .before .before .before .before .before .before .before .before .before .before .before) .pre .1 .0 .sorted .size, slotted (c .before .before .before .before .before .before .before .before .before .before .before))
 
   sub-write-below-3 : write-below-lts.Need-sub-write-below-3 claims Pre write-below.Post
-  sub-write-below-3 c = let h = cut (c .before .before .before .before .before .before .before .before .before .before .before) in omega (arith, h .small, h .least, h .less, start (c .before .before .before .before .before .before .before .before .before .before .before) .pre .1 .2 .size, slotted (c .before .before .before .before .before .before .before .before .before .before .before))
+  sub-write-below-3 c = let h = cut (c .before .before .before .before .before .before .before .before .before .before .before) in omega (arith, h .small, h .least, h .less, start (c .before .before .before .before .before .before .before .before .before .before .before) .pre .1 .0 .sorted .size, slotted (c .before .before .before .before .before .before .before .before .before .before .before))
 
   part-write-below-start-2 : write-below-lts.Need-part-write-below-start-2 claims Pre write-below.Post
-  part-write-below-start-2 c = let h = cut (c .before .before .before .before .before .before .before .before .before .before .before) in omega (arith, h .small, h .least, h .less, start (c .before .before .before .before .before .before .before .before .before .before .before) .pre .1 .2 .size, slotted (c .before .before .before .before .before .before .before .before .before .before .before))
+  part-write-below-start-2 c = let h = cut (c .before .before .before .before .before .before .before .before .before .before .before) in omega (arith, h .small, h .least, h .less, start (c .before .before .before .before .before .before .before .before .before .before .before) .pre .1 .0 .sorted .size, slotted (c .before .before .before .before .before .before .before .before .before .before .before))
 
   part-write-below-end-2 : write-below-lts.Need-part-write-below-end-2 claims Pre write-below.Post
   part-write-below-end-2 c = search needs
 
   add-write-below-2 : write-below-lts.Need-add-write-below-2 claims Pre write-below.Post
-  add-write-below-2 c = let w = c .before .before .before .before .before .before .before .before .before .before .before .before .before in omega (arith, start w .pre .1 .6, way-long (label w) (whole w) (high w) (bits w) (digest (top (low w))) (digest-wide (nodeString (top (low w))) .size) (right-way (c .before .before .before .before .before .before .before .before .before)))
+  add-write-below-2 c = let w = c .before .before .before .before .before .before .before .before .before .before .before .before .before in omega (arith, start w .pre .1 .3, way-long (label w) (whole w) (high w) (bits w) (digest (top (low w))) (digest-wide (nodeString (top (low w))) .size) (right-way (c .before .before .before .before .before .before .before .before .before)))
 
   write-below-requires : write-below-lts.Need-write-below-requires claims Pre write-below.Post
   write-below-requires c κs =
@@ -254,13 +254,10 @@ module _ (t : ℕ) where
       let q = start w .pre .0 in (
         omega (arith, q, h .deeper, h .small),
         (
-          omega (arith, h .less),
-          omega arith,
-          behind-sorted (a .n) (a .s .now) (start w .pre .1 .2) (left w) (omega (arith, h .less)),
-          h .right,
-          high-slots (a .n) (a .from) (a .s .now) (bits w) (left w) (start w .pre .1 .2) h (a .slots .now) (start w .pre .1 .4),
-          start w .pre .1 .5,
-          omega (arith, start w .pre .1 .6, c .before .before .before .before .before .write-step .kept .0, way-long (label w) (whole w) (high w) (bits w) (digest (top (low w))) (digest-wide (nodeString (top (low w))) .size) (right-way (c .before .before .before .before .before .before .before .before .before))),
+          record { some = omega (arith, h .less); deep = omega arith; sorted = behind-sorted (a .n) (a .s .now) (start w .pre .1 .0 .sorted) (left w) (omega (arith, h .less)); range = h .right },
+          high-slots (a .n) (a .from) (a .s .now) (bits w) (left w) (start w .pre .1 .0 .sorted) h (a .slots .now) (start w .pre .1 .1),
+          start w .pre .1 .2,
+          omega (arith, start w .pre .1 .3, c .before .before .before .before .before .write-step .kept .0, way-long (label w) (whole w) (high w) (bits w) (digest (top (low w))) (digest-wide (nodeString (top (low w))) .size) (right-way (c .before .before .before .before .before .before .before .before .before))),
         ),
       )
 
@@ -273,8 +270,8 @@ module _ (t : ℕ) where
       let w = c .before .before .before .before .before .before .before .before .before .before .before .before .before .before .before .before in
       let a = start w .args in
       let x : stepped .before .before .before .digest-at .result ≡ digest (top (low w)) =
-      stepped .before .before .before .digest-at .ensures ∙ low-digest (a .n) (a .from) (a .s .now) (bits w) (left w) (start w .pre .1 .2) (cut w) (a .slots .now) (start w .pre .1 .4) in
-      way-wrote (label w) (whole w) (high w) (bits w) (digest (top (low w))) (digest-wide (nodeString (top (low w))) .size) (right-way (c .before .before .before .before .before .before .before .before .before .before .before .before)) (a .out .now) _ _ (a .at) (a .at + 34) _ (omega (arith, start w .pre .1 .6)) refl
+      stepped .before .before .before .digest-at .ensures ∙ low-digest (a .n) (a .from) (a .s .now) (bits w) (left w) (start w .pre .1 .0 .sorted) (cut w) (a .slots .now) (start w .pre .1 .1) in
+      way-wrote (label w) (whole w) (high w) (bits w) (digest (top (low w))) (digest-wide (nodeString (top (low w))) .size) (right-way (c .before .before .before .before .before .before .before .before .before .before .before .before)) (a .out .now) _ _ (a .at) (a .at + 34) _ (omega (arith, start w .pre .1 .3)) refl
       (stepped .write-step .ensures ∙ ap (λ y. pasted (a .out .now) (a .at) (stepField .bytes (record { length = bits w; sibling = y }))) x) (c .before .before .write-below .ensures)
 
   left-way : (c : write-below-lts.Else3 claims Pre write-below.Post)
@@ -285,27 +282,27 @@ module _ (t : ℕ) where
       turn-bytes (label w) _ _ _ _ (cut w .tree) (bits w) (size w) begun false (sym (c .before .label-bit .ensures) ∙ c .if3 .left)
 
   add-digest-at : write-below-lts.Need-add-digest-at claims Pre write-below.Post
-  add-digest-at c = let h = cut (c .before .before .before .before) in omega (arith, h .small, h .least, h .less, start (c .before .before .before .before) .pre .1 .2 .size, slotted (c .before .before .before .before))
+  add-digest-at c = let h = cut (c .before .before .before .before) in omega (arith, h .small, h .least, h .less, start (c .before .before .before .before) .pre .1 .0 .sorted .size, slotted (c .before .before .before .before))
 
   digest-at-requires-2 : write-below-lts.Need-digest-at-requires-2 claims Pre write-below.Post
-  digest-at-requires-2 c κs = let h = cut (c .before .before .before .before) in omega (arith, h .small, h .least, h .less, start (c .before .before .before .before) .pre .1 .2 .size, slotted (c .before .before .before .before))
+  digest-at-requires-2 c κs = let h = cut (c .before .before .before .before) in omega (arith, h .small, h .least, h .less, start (c .before .before .before .before) .pre .1 .0 .sorted .size, slotted (c .before .before .before .before))
 
   write-step-requires-2 : write-below-lts.Need-write-step-requires-2 claims Pre write-below.Post
   write-step-requires-2 c κs =
       let w = c .before .before .before .before .before .before .before in
-      (omega (arith, start w .pre .1 .6, way-long (label w) (whole w) (low w) (bits w) (digest (top (high w))) (digest-wide (nodeString (top (high w))) .size) (left-way (c .before .before .before))), omega (arith, cut w .small))
+      (omega (arith, start w .pre .1 .3, way-long (label w) (whole w) (low w) (bits w) (digest (top (high w))) (digest-wide (nodeString (top (high w))) .size) (left-way (c .before .before .before))), omega (arith, cut w .small))
 
   slice-aggregate-write-below : write-below-lts.Need-slice-aggregate-write-below claims Pre write-below.Post
-  slice-aggregate-write-below c = let w = c .before .before .before .before .before .before .before .before .before .before .before in sym (length-take-le (left w * 68) (start w .args .s .now) (let h = cut (c .before .before .before .before .before .before .before .before .before .before .before) in omega (arith, h .small, h .least, h .less, start (c .before .before .before .before .before .before .before .before .before .before .before) .pre .1 .2 .size, slotted (c .before .before .before .before .before .before .before .before .before .before .before))))
+  slice-aggregate-write-below c = let w = c .before .before .before .before .before .before .before .before .before .before .before in sym (length-take-le (left w * 68) (start w .args .s .now) (let h = cut (c .before .before .before .before .before .before .before .before .before .before .before) in omega (arith, h .small, h .least, h .less, start (c .before .before .before .before .before .before .before .before .before .before .before) .pre .1 .0 .sorted .size, slotted (c .before .before .before .before .before .before .before .before .before .before .before))))
 
   add-write-below-3 : write-below-lts.Need-add-write-below-3 claims Pre write-below.Post
-  add-write-below-3 c = let h = cut (c .before .before .before .before .before .before .before .before .before .before .before) in omega (arith, h .small, h .least, h .less, start (c .before .before .before .before .before .before .before .before .before .before .before) .pre .1 .2 .size, slotted (c .before .before .before .before .before .before .before .before .before .before .before))
+  add-write-below-3 c = let h = cut (c .before .before .before .before .before .before .before .before .before .before .before) in omega (arith, h .small, h .least, h .less, start (c .before .before .before .before .before .before .before .before .before .before .before) .pre .1 .0 .sorted .size, slotted (c .before .before .before .before .before .before .before .before .before .before .before))
 
   slice-aggregate-write-below-2 : write-below-lts.Need-slice-aggregate-write-below-2 claims Pre write-below.Post
-  slice-aggregate-write-below-2 c = let w = c .before .before .before .before .before .before .before .before .before .before .before .before in sym (length-take-le ((left w - 1) * 64) (start w .args .slots .now) (let h = cut (c .before .before .before .before .before .before .before .before .before .before .before .before) in omega (arith, h .small, h .least, h .less, start (c .before .before .before .before .before .before .before .before .before .before .before .before) .pre .1 .2 .size, slotted (c .before .before .before .before .before .before .before .before .before .before .before .before))))
+  slice-aggregate-write-below-2 c = let w = c .before .before .before .before .before .before .before .before .before .before .before .before in sym (length-take-le ((left w - 1) * 64) (start w .args .slots .now) (let h = cut (c .before .before .before .before .before .before .before .before .before .before .before .before) in omega (arith, h .small, h .least, h .less, start (c .before .before .before .before .before .before .before .before .before .before .before .before) .pre .1 .0 .sorted .size, slotted (c .before .before .before .before .before .before .before .before .before .before .before .before))))
 
   add-write-below-4 : write-below-lts.Need-add-write-below-4 claims Pre write-below.Post
-  add-write-below-4 c = let w = c .before .before .before .before .before .before .before .before .before .before .before .before .before in omega (arith, start w .pre .1 .6, way-long (label w) (whole w) (low w) (bits w) (digest (top (high w))) (digest-wide (nodeString (top (high w))) .size) (left-way (c .before .before .before .before .before .before .before .before .before)))
+  add-write-below-4 c = let w = c .before .before .before .before .before .before .before .before .before .before .before .before .before in omega (arith, start w .pre .1 .3, way-long (label w) (whole w) (low w) (bits w) (digest (top (high w))) (digest-wide (nodeString (top (high w))) .size) (left-way (c .before .before .before .before .before .before .before .before .before)))
 
   write-below-requires-2 : write-below-lts.Need-write-below-requires-2 claims Pre write-below.Post
   write-below-requires-2 c κs =
@@ -315,13 +312,10 @@ module _ (t : ℕ) where
       let q = start w .pre .0 in (
         omega (arith, q, h .deeper, h .small),
         (
-          h .least,
-          omega arith,
-          before-sorted (a .n) (a .s .now) (start w .pre .1 .2) (left w) (omega (arith, h .less)),
-          h .left,
-          low-slots (a .n) (a .from) (a .s .now) (bits w) (left w) (start w .pre .1 .2) h (a .slots .now) (start w .pre .1 .4),
-          start w .pre .1 .5,
-          omega (arith, start w .pre .1 .6, c .before .before .before .before .before .write-step2 .kept .0, way-long (label w) (whole w) (low w) (bits w) (digest (top (high w))) (digest-wide (nodeString (top (high w))) .size) (left-way (c .before .before .before .before .before .before .before .before .before))),
+          record { some = h .least; deep = omega arith; sorted = before-sorted (a .n) (a .s .now) (start w .pre .1 .0 .sorted) (left w) (omega (arith, h .less)); range = h .left },
+          low-slots (a .n) (a .from) (a .s .now) (bits w) (left w) (start w .pre .1 .0 .sorted) h (a .slots .now) (start w .pre .1 .1),
+          start w .pre .1 .2,
+          omega (arith, start w .pre .1 .3, c .before .before .before .before .before .write-step2 .kept .0, way-long (label w) (whole w) (low w) (bits w) (digest (top (high w))) (digest-wide (nodeString (top (high w))) .size) (left-way (c .before .before .before .before .before .before .before .before .before))),
         ),
       )
 
@@ -334,8 +328,8 @@ module _ (t : ℕ) where
       let w = c .before .before .before .before .before .before .before .before .before .before .before .before .before .before .before .before in
       let a = start w .args in
       let x : stepped .before .before .before .digest-at2 .result ≡ digest (top (high w)) =
-      stepped .before .before .before .digest-at2 .ensures ∙ high-digest (a .n) (a .from) (a .s .now) (bits w) (left w) (start w .pre .1 .2) (cut w) (a .slots .now) (start w .pre .1 .4) in
-      way-wrote (label w) (whole w) (low w) (bits w) (digest (top (high w))) (digest-wide (nodeString (top (high w))) .size) (left-way (c .before .before .before .before .before .before .before .before .before .before .before .before)) (a .out .now) _ _ (a .at) (a .at + 34) _ (omega (arith, start w .pre .1 .6)) refl
+      stepped .before .before .before .digest-at2 .ensures ∙ high-digest (a .n) (a .from) (a .s .now) (bits w) (left w) (start w .pre .1 .0 .sorted) (cut w) (a .slots .now) (start w .pre .1 .1) in
+      way-wrote (label w) (whole w) (low w) (bits w) (digest (top (high w))) (digest-wide (nodeString (top (high w))) .size) (left-way (c .before .before .before .before .before .before .before .before .before .before .before .before)) (a .out .now) _ _ (a .at) (a .at + 34) _ (omega (arith, start w .pre .1 .3)) refl
       (stepped .write-step2 .ensures ∙ ap (λ y. pasted (a .out .now) (a .at) (stepField .bytes (record { length = bits w; sibling = y }))) x) (c .before .before .write-below2 .ensures)
 
 pub +write-below-spec : {M : Type 1} → statement M

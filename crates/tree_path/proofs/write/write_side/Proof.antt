@@ -39,7 +39,9 @@ slice-aggregate-write-below c =
     sym (length-take-le ((start .args .n - 1) * 64) (start .args .slots .now) (omega (arith, start .pre .2)))
 
 write-below-requires : tie.Need-write-below-requires
-write-below-requires c κs = search needs
+write-below-requires c κs =
+    let start = c .before .before .before .before .before .before .before in
+    (record { some = omega arith; deep = omega arith; sorted = start .pre .0; range = start .pre .1 }, start .pre .3, start .pre .4, start .pre .5)
 
 same-length-2 : tie.Need-same-length-2
 same-length-2 c = search needs
