@@ -1,33 +1,28 @@
 -- Paths one by one. Assumes nothing.
 use mathlib.Core.Path.{_≡_, refl, sym, ap, ap₂, _∙_, subst}
 use mathlib.Core.Bool.{true, not, _&&_, _||_}
-use mathlib.Core.List.{List, [], _∷_, _++_, map, map-append, append-nil, append-assoc}
+use mathlib.Core.List.{List, [], _∷_, _++_, map, map-append}
 use Prim.Native.Nat.{ℕ, suc, _+_, _≤_, _<_}
 use native.Mathlib.Nat.{add-zero}
 use native.Mathlib.Omega.{arith}
 use lib.ListN.{length, take, drop, getD, length-append, take-append-drop}
 use lib.Seq.{take-suc}
 use Rattle.paper.specs.Lists.{every}
-use Rattle.paper.specs.Bytes.{Bytes, Bytewise}
+use Rattle.paper.specs.Bytes.{Bytes}
 use Rattle.paper.specs.Bits.{bitsOf}
 use Rattle.paper.specs.Strings.{Node}
 use Rattle.paper.specs.Tree.{root}
-use Rattle.paper.specs.Path.{way, wayEnd}
+use Rattle.paper.specs.Path.{way}
 use Rattle.paper.specs.Layout.{timesBytes}
-use Rattle.paper.specs.Fields.{endKind, pathField}
-use Rattle.paper.specs.Level.{leavesIn}
+use Rattle.paper.specs.Fields.{pathField}
 use Rattle.paper.specs.Table.{holds}
 use Rattle.paper.specs.Shows as P
-use Rattle.paper.proofs.Fits.{path-fits}
 use Rattle.words.proofs.Pasted.{pasted-none}
 use Rattle.table.proofs.Own.{every-snoc}
 use Rattle.plan.specs.Asked.{placed, asked}
 use Rattle.plan.specs.declared.Asked.{Asked}
-use Rattle.tree.specs.Stored.{Sorted}
 use Rattle.tree_path.specs.Written.{Wrote}
-use Rattle.tree_path.proofs.Ends.{size-most, path-size}
-use Rattle.tree_path.proofs.There.{way-in-layout}
-use Rattle.tree_path.proofs.Writing.{wrote-next}
+use Rattle.tree_path.proofs.Writing.{times-append, times-one, wrote-next}
 use Rattle.paths.specs.Paths.{placeOf, labelOf, wanted, leavesFor, pathFor, freeFor, pathBytes, Sized, Joined, Measured}
 use Rattle.paths.specs.declared.Measure.{Measure}
 
@@ -40,23 +35,7 @@ place-back (P.asMarker j) = refl
 pub wanted-back : (a : P.Asked) → wanted (asked a) ≡ a
 wanted-back a = ap (λ (x : P.Place). record { place = x; there = a .there }) (place-back (a .place))
 
--- a path has 256 steps at most
-pub path-most : (n : ℕ) (s label : Bytes) → Sorted n s → Bytewise s → length label ≡ 32 → length (pathField .bytes (way (bitsOf label) (root (leavesIn n s)))) ≤ 8805
-path-most n s label h w size =
-    let t = root (leavesIn n s) in
-    let f = way-in-layout n s label h w size in
-    omega (arith, path-size (bitsOf label) t f, path-fits _ f .most, size-most (endKind (wayEnd (bitsOf label) t)))
-
 -- ---- more and more of them
-
-times-append : {A : Type 0} (f : A → Bytes) (l m : List A) → timesBytes f (l ++ m) ≡ timesBytes f l ++ timesBytes f m
-unfolding timesBytes
-times-append f [] m = refl
-times-append f (x ∷ l) m = ap (λ k. f x ++ k) (times-append f l m) ∙ sym (append-assoc (f x) (timesBytes f l) (timesBytes f m))
-
-times-one : {A : Type 0} (f : A → Bytes) (x : A) → timesBytes f (x ∷ []) ≡ f x
-unfolding timesBytes
-times-one f x = append-nil (f x)
 
 module _ (name : Bytes) (A O : List Node) where
   -- a place's label and its tree give the path

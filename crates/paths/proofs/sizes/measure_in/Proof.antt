@@ -4,7 +4,7 @@ use mathlib.Core.Path.{_≡_, refl, sym, ap, subst}
 use mathlib.Core.Bool.{true, not}
 use Prim.Native.Nat.{_≤_}
 use Rattle.words.proofs.Slices.{bytewise}
-use Rattle.paths.proofs.Asked.{path-most}
+use Rattle.tree_path.proofs.There.{path-most}
 use Rattle.paths.proofs.sizes.measure_in.Statement.{statement}
 use Rattle.paths.proofs.sizes.measure_in.Tie as tie
 
