@@ -1,0 +1,31 @@
+-- `write_proof::judge::from_of`: the last record, unless it is a history.
+use borrow.Author.Needs.{needs}
+use native.Mathlib.Omega.{arith}
+use mathlib.Core.Path.{_≡_, sym, ap}
+use mathlib.Core.Bool.{false}
+use Prim.Native.Nat.{suc, _-_}
+use Rattle.write_proof.specs.Judged.{fromBy}
+use Rattle.write_proof.proofs.judge.from_of.Statement.{statement}
+use Rattle.write_proof.proofs.judge.from_of.Tie as tie
+
+-- src/judge.rt:36:9
+returns : tie.Need-returns
+returns c = search needs
+
+-- src/judge.rt:39:9
+returns-2 : tie.Need-returns-2
+returns-2 c = search needs
+
+-- src/judge.rt:41:5
+sub-result : tie.Need-sub-result
+sub-result c = search needs
+
+-- src/judge.rt:32:1
+returns-3 : tie.Need-returns-3
+returns-3 c =
+    let a = c .before .before .args in
+    let e : a .at ≡ suc (a .at - 1) = omega (arith, c .if2 .left) in
+    rw (c .before .if1 .left) (sym (ap (fromBy false) e))
+
+pub from-of-spec : {M : Type 1} → statement M
+from-of-spec = tie.close (tie.spec returns returns-2 sub-result returns-3)
