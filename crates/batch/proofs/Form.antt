@@ -2,7 +2,7 @@
 use mathlib.Core.Path.{_≡_, refl, sym, ap, ap₂, _∙_}
 use mathlib.Core.Logic.{⊎-elim}
 use mathlib.Core.Bool.{Bool, true, false, _&&_, and-true, and-false}
-use mathlib.Core.List.{List, [], _∷_, map}
+use mathlib.Core.List.{List, [], _∷_, _++_, map}
 use Prim.Native.Nat.{ℕ, suc, _+_, _*_, _≤_, _<_}
 use native.Mathlib.Omega.{arith}
 use lib.ListN.{length, take, drop, getD, length-drop, drop-of-length-le}
@@ -13,6 +13,7 @@ use Rattle.paper.specs.Bytes.{Bytes, Bytewise}
 use Rattle.paper.specs.Layout.{Read, got, bad, inLayout, times, whole, parse}
 use Rattle.paper.specs.Fields.{isName, digestField}
 use Rattle.paper.specs.Table.{Update, filledField, nameField, updateField}
+use Rattle.paper.proofs.Proofs.{update-lawful}
 use Rattle.paper.proofs.Lists.{true-or-false, not-both, and-left, all-in, in-all, all-drop, every-all, all-every, in-upFrom, upFrom-in}
 use Rattle.fields.proofs.Flat.{Flat, flat-as, flat-in, flat-yes, flat-no, block-flat, seq-flat, view-flat, such-flat}
 use Rattle.fields.proofs.Many.{many-flat}
@@ -65,6 +66,17 @@ module _ (s : Bytes) (i : ℕ) (w : Bytewise s) (room : suc i * updateSize ≤ l
   pub lies-by : nameFormed s i ≡ true → Lies s i
   lies-by e = record { reach = room; short = filled-short s (i * updateSize) w (omega arith) e }
 
+  pub formed-lies : formed s i ≡ true → Lies s i
+  formed-lies e = let f = sym formed-is ∙ e in lies-by (and-left _ _ (and-left _ _ f))
+
+  -- an update in layout, and its bytes
+  pub update-told : formed s i ≡ true → updateField .Fits (updateAt s i) × (updateField .bytes (updateAt s i) ++ drop updateSize (drop (i * updateSize) s) ≡ drop (i * updateSize) s)
+  unfolding updateAt
+  update-told e =
+      let t = drop (i * updateSize) s in
+      let b = all-drop _ (i * updateSize) s w in
+      update-lawful .tells t (updateIn t) (drop updateSize t) b (flat-yes update-flat t b (omega (arith, length-drop (i * updateSize) s)) (sym tested-is ∙ e))
+
 -- ---- all updates
 
 module _ (s : Bytes) (n : ℕ) (w : Bytewise s) (size : length s ≡ n * updateSize) where
@@ -101,4 +113,4 @@ module _ (s : Bytes) (n : ℕ) (w : Bytewise s) (size : length s ≡ n * updateS
   batch-formed e i h = ⊎-elim (λ t. t) (λ t. not-both e (ap inLayout (batch-bad i h t))) (true-or-false (formed s i))
 
   pub batch-lies : inLayout (parse (times n updateField) s) ≡ true → (i : ℕ) → i < n → Lies s i
-  batch-lies e i h = let f = sym (formed-is s i w (room i h)) ∙ batch-formed e i h in lies-by s i w (room i h) (and-left _ _ (and-left _ _ f))
+  batch-lies e i h = formed-lies s i w (room i h) (batch-formed e i h)

@@ -1,20 +1,20 @@
 -- The updates of a batch by their numbers. Assumes nothing.
 use mathlib.Core.Path.{_≡_, refl, sym, ap, ap₂, _∙_}
 use mathlib.Core.Bool.{Bool, true, false, not, _&&_, _||_}
-use mathlib.Core.List.{List, [], _∷_, _++_, map}
+use mathlib.Core.List.{List, [], _∷_, _++_, map, map-append}
 use Prim.Native.Nat.{ℕ, zero, suc, _+_, _-_, _*_, _≤_, _<_}
 use native.Mathlib.Nat.{zero-add}
 use native.Mathlib.Numerals.{add-one}
 use native.Mathlib.Omega.{arith}
 use lib.ListN.{length, take, drop, getD, length-map, drop-of-length-le}
 use lib.Seq.{take-take, getD-drop, drop-drop, drop-cons}
-use Rattle.paper.specs.Lists.{upFrom, some}
+use Rattle.paper.specs.Lists.{_∈_, upFrom, some}
 use Rattle.paper.specs.Numbers.{updateSize}
 use Rattle.paper.specs.Bytes.{Bytes, same}
 use Rattle.paper.specs.Labelling.{Labelling, plain, sameName}
 use Rattle.paper.specs.Table.{Update}
 use Rattle.paper.specs.Publish.{once}
-use Rattle.paper.proofs.Lists.{upFrom-length, getD-upFrom}
+use Rattle.paper.proofs.Lists.{upFrom-length, upFrom-snoc, getD-upFrom, in-map, map-in, in-upFrom, upFrom-in}
 use Rattle.words.proofs.Pasted.{part-is}
 use Rattle.batch.specs.Places.{updateIn, updateAt, updatesIn, bearsFrom, Lies}
 
@@ -33,6 +33,20 @@ updates-length n s = length-map (upFrom 0 n) (updateAt s) ∙ upFrom-length 0 n
 pub updates-getD : (n : ℕ) (s : Bytes) (i : ℕ) (d : Update) → i < n → getD (updatesIn n s) i d ≡ updateAt s i
 unfolding updatesIn
 updates-getD n s i d h = getD-upFrom (updateAt s) d 0 n i h ∙ ap (updateAt s) (zero-add i)
+
+pub updates-in : (n : ℕ) (s : Bytes) (i : ℕ) → i < n → updateAt s i ∈ updatesIn n s
+unfolding updatesIn
+updates-in n s i h = in-map (updateAt s) (upFrom 0 n) i (in-upFrom 0 n i (omega arith) (omega arith))
+
+pub in-updates : (n : ℕ) (s : Bytes) (u : Update) → u ∈ updatesIn n s → (i : ℕ) × (i < n) × (u ≡ updateAt s i)
+unfolding updatesIn
+in-updates n s u m =
+    let (i, k, e) = map-in (updateAt s) (upFrom 0 n) u m in
+    (i, omega (arith, upFrom-in 0 n i k .1), e)
+
+pub updates-snoc : (n : ℕ) (s : Bytes) → updatesIn (suc n) s ≡ updatesIn n s ++ (updateAt s n ∷ [])
+unfolding updatesIn
+updates-snoc n s = ap (map (updateAt s)) (upFrom-snoc 0 n) ∙ map-append (updateAt s) (upFrom 0 n) ((0 + n) ∷ []) ∙ ap (λ i. map (updateAt s) (upFrom 0 n) ++ (updateAt s i ∷ [])) (zero-add n)
 
 -- what is left from update i on
 pub updates-from : (n : ℕ) (s : Bytes) (i : ℕ) → i < n → drop i (updatesIn n s) ≡ updateAt s i ∷ drop (suc i) (updatesIn n s)

@@ -31,6 +31,11 @@ use Rattle.paper.proofs.Fit.{epoch-fit}
 use Rattle.paper.proofs.Pasted.{part-at}
 use Rattle.paper.proofs.Kept.{records-length}
 
+-- an update in layout becomes a record in layout, unless its name is at 1,023
+pub record-new : (lab : Labelling) (rs : List Record) (e : ℕ) (u : Update) → updateField .Fits u → newRecord lab rs e u .version ≤ versionMost → e < 2 ^ 32 → recordField .Fits (newRecord lab rs e u)
+unfolding view seq within
+record-new lab rs e u g v h = ((g .0 .0, ((omega arith, v, omega arith), (epoch-fit e h, (g .0 .1 .0, g .0 .1 .1)))), refl)
+
 -- updates that were read fit
 pub updates-fit : (batch : Bytes) → Bytewise batch → (us : List Update) (r : Bytes) → parse (times (length batch / updateSize) updateField) batch ≡ got us r → All (updateField .Fits) us
 unfolding times
@@ -119,10 +124,7 @@ module _ (lab : Labelling) (records heads : Bytes) (state : State) where
         omega (arith, full-slot)
 
     new-fit : (u : Update) → updateField .Fits u → leb (newRecord lab rs (suc (state .epoch)) u .version) versionMost ≡ true → recordField .Fits (newRecord lab rs (suc (state .epoch)) u)
-    unfolding view seq within
-    new-fit u g v =
-        let w : newRecord lab rs (suc (state .epoch)) u .version ≤ versionMost = leb-true _ versionMost v in
-        ((g .0 .0, ((omega arith, w, omega arith), (epoch-fit (suc (state .epoch)) epoch-small, (g .0 .1 .0, g .0 .1 .1)))), refl)
+    new-fit u g v = record-new lab rs (suc (state .epoch)) u g (leb-true _ versionMost v) epoch-small
 
     more-fit : All (recordField .Fits) more
     more-fit = go us fits versions

@@ -2,3 +2,5 @@
 pub mod Tests
 pub mod Made
 pub mod Started
+pub mod Prepared
+pub mod Weighing

@@ -1,21 +1,22 @@
 -- What is found out about a batch before anything is written.
 use mathlib.Core.Path.{_≡_}
-use mathlib.Core.Bool.{Bool, true, false}
+use mathlib.Core.Bool.{Bool, true, false, _&&_}
 use mathlib.Core.List.{List, [], _∷_, _++_, map}
 use Prim.Native.Nat.{ℕ, suc, _+_, _*_, _/_, _≤_, _<_}
 use lib.Dec.{leb}
 use lib.ListN.{length, take, drop}
 use Rattle.paper.specs.Lists.{every}
-use Rattle.paper.specs.Numbers.{wide, versionMost, recordSize, recordsMost, updateSize}
-use Rattle.paper.specs.Bytes.{Bytes, be, pasted}
+use Rattle.paper.specs.Numbers.{wide, versionMost, recordSize, recordsMost, updateSize, CLASH}
+use Rattle.paper.specs.Bytes.{Bytes, be, zeros, pasted}
 use Rattle.paper.specs.Labelling.{plain}
-use Rattle.paper.specs.Layout.{timesBytes}
-use Rattle.paper.specs.Table.{Record, recordField}
-use Rattle.paper.specs.Publish.{Published, newRecord, unpublished, publish}
+use Rattle.paper.specs.Layout.{times, timesBytes, parse, inLayout}
+use Rattle.paper.specs.Table.{Record, recordField, updateField, recordsWithin, headsWithin, distinct, allAt, oldAt, headDigest}
+use Rattle.paper.specs.Publish.{Published, newRecord, batchWithin, unpublished, publish}
 use Rattle.paper.specs.declared.State.{State}
 use Rattle.paper.specs.declared.PublishAnswer.the-variants as P
 use Rattle.record.specs.Places.{recordsIn, Stands}
-use Rattle.batch.specs.Places.{updatesIn}
+use Rattle.table.specs.Index.{Indexed}
+use Rattle.batch.specs.Places.{updateAt, updatesIn}
 use Rattle.publish.specs.declared.Weighed.{Weighed}
 
 -- "An update has 162 bytes: a record without version and epoch.": the record's bytes, from the update's
@@ -25,6 +26,16 @@ recordOver u version epoch = take 65 u ++ (be 2 version ++ (be 4 epoch ++ take 9
 -- the records that n updates become at an epoch, behind the counted ones
 abbrev pub newRecords : Bytes → ℕ → ℕ → Bytes → ℕ → List Record
 newRecords records count epoch batch n = map (newRecord plain (recordsIn count records) epoch) (updatesIn n batch)
+
+-- the table's records are indexed, and each update of the batch is in layout
+pub record Ready (records : Bytes) (count : ℕ) (first next : List ℕ) (batch : Bytes) : Type 0 where
+  pub index : Indexed records count first next
+  pub formed : (i : ℕ) → suc i * updateSize ≤ length batch → inLayout (updateField .read (drop (i * updateSize) batch)) ≡ true
+
+-- whether the record that update i becomes has a version, and then its bytes are laid over place i
+pub record Next (records : Bytes) (count : ℕ) (batch : Bytes) (i epoch : ℕ) (before after : Bytes) (r : Bool) : Type 0 where
+  pub is : r ≡ leb (newRecord plain (recordsIn count records) epoch (updateAt batch i) .version) versionMost
+  pub bytes : r ≡ true → after ≡ pasted before (i * recordSize) (recordOver (drop (i * updateSize) batch) (newRecord plain (recordsIn count records) epoch (updateAt batch i) .version) epoch)
 
 -- whether no name is at 1,023 already, and then the bytes of the new records
 pub record Prepared (records : Bytes) (count epoch : ℕ) (batch : Bytes) (n : ℕ) (fresh : Bytes) (r : Bool) : Type 0 where
@@ -36,6 +47,23 @@ pub record Plantable (records : Bytes) (count : ℕ) (fresh : Bytes) (n : ℕ) :
   pub stand : (i : ℕ) → i < count → Stands records i
   pub new : (i : ℕ) → i < n → Stands fresh i
   pub few : count + n ≤ recordsMost
+
+-- "an argument breaks the bounds or an update's layout": whether none does
+unfoldable pub inputGood : Bytes → Bytes → Bytes → Bool
+inputGood records heads batch = (recordsWithin records && (headsWithin heads && batchWithin batch)) && inLayout (parse (times (length batch / updateSize) updateField) batch)
+
+-- a refusal has no head
+abbrev pub refusedBy : ℕ → Weighed
+refusedBy n = record { number = n; head = zeros wide }
+
+-- "two leaves of a needed tree share a label": whether none do in either tree of the next epoch
+abbrev pub apart : ℕ → List Record → Bool
+apart epoch rs = distinct (allAt plain (suc epoch) rs) && distinct (oldAt plain (suc epoch) rs)
+
+-- number 7, or 0 and the next epoch's head
+pub record Headed (heads : Bytes) (epoch : ℕ) (rs : List Record) (r : Weighed) : Type 0 where
+  pub clash : ¬ (r .number ≡ 0) → (r .number ≡ CLASH) × (apart epoch rs ≡ false)
+  pub clear : r .number ≡ 0 → (apart epoch rs ≡ true) × (r .head ≡ headDigest plain heads (suc epoch) rs)
 
 -- what publishing leaves, from the new records' bytes and the new head
 abbrev pub leaving : Bytes → Bytes → State → ℕ → Bytes → Bytes → Published

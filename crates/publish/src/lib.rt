@@ -3,6 +3,7 @@
 mod fresh;
 mod plant;
 mod starting;
+mod weigh;
 
 pub use starting::start;
 

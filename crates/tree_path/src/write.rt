@@ -1,9 +1,9 @@
 // Writing a label's path into a lent output, from its count on.
-use bits::label_bit;
-use bits::prefix_of;
 use crate::walk::has_prefix;
 use crate::walk::is_label;
 use crate::walk::way_of;
+use bits::label_bit;
+use bits::prefix_of;
 use tree::Sides;
 use tree::fork_of;
 use tree::label_of;
@@ -87,7 +87,15 @@ fn write_below(
     if label_bit(label, k) {
         let sibling = digest_at(slots, slot);
         write_step(out, at, k, &sibling);
-        return write_below(&s[middle..], n - m, k + 1, &slots[behind..], label, out, at + 34);
+        return write_below(
+            &s[middle..],
+            n - m,
+            k + 1,
+            &slots[behind..],
+            label,
+            out,
+            at + 34,
+        );
     }
     let sibling = digest_at(slots, slot + 32);
     write_step(out, at, k, &sibling);
@@ -95,14 +103,7 @@ fn write_below(
 }
 
 // The same on a side of the root, where "3, nothing" may be the end.
-fn write_side(
-    s: &[u8],
-    n: usize,
-    slots: &[u8],
-    label: &[u8],
-    out: &mut [u8],
-    at: usize,
-) -> usize
+fn write_side(s: &[u8], n: usize, slots: &[u8], label: &[u8], out: &mut [u8], at: usize) -> usize
     requires { ⌜ Sorted n (now s) × Range 1 (leavesIn n (now s)) × (length (now slots) ≡ n * 64) × (take ((n - 1) * 64) (now slots) ≡ flat (build 256 (leavesIn n (now s)))) × (length (now label) ≡ 32) × (at + length (wayBytes (bitsOf (now label)) (build 256 (leavesIn n (now s)))) ≤ length (now out)) ⌝ }
     ensures { λ r. ⌜ Wrote (now (out .entry)) at (wayBytes (bitsOf (now (label .entry))) (build 256 (leavesIn n (now (s .entry))))) (now (out .exit)) r ⌝ }
 {
