@@ -34,3 +34,8 @@ module _ (out s : Bytes) (input clear : Bool) where
   pub written : input ≡ true → clear ≡ true → length s ≤ length out → tested ≡ record { answer = T.Written (length s); out = pasted out 0 s }
   unfolding laid verdict
   written e f h = rw (e, f, le-leb (length s) (length out) h)
+
+  -- the input is good: the others decide
+  pub in-bounds : input ≡ true → tested ≡ laid out s (test CLASH clear ∷ [])
+  unfolding laid verdict
+  in-bounds e = rw e

@@ -1,7 +1,9 @@
 // The tree level, which takes labels directly.
 mod entry;
+mod path;
 mod root;
 
+pub use entry::tree_path;
 pub use entry::tree_root;
 pub use root::root_of;
 

@@ -10,7 +10,7 @@ ghost use Rattle.paper.specs.Level.{leavesIn, entriesMost};
 ghost use Rattle.level.specs.Rooted.{Roots};
 
 // Room for the digests below the root, 64 bytes for each of 8,192 leaves.
-fn slots() -> [u8; 524288] {
+pub(crate) fn slots() -> [u8; 524288] {
     [0u8; 524288]
 }
 

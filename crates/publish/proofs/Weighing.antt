@@ -11,9 +11,10 @@ use borrow.Author.Tests.{eqb-true, leb-true}
 use Rattle.paper.specs.Lists.{All, every}
 use Rattle.paper.specs.Numbers.{wide, versionMost, recordSize, updateSize, headsMost, INPUT, TABLE, TWICE, FULL, CLASH}
 use Rattle.paper.specs.Bytes.{Bytes, Bytewise, pasted}
+use Rattle.paper.specs.Strings.{headString}
 use Rattle.paper.specs.Labelling.{plain}
 use Rattle.paper.specs.Layout.{Read, got, bad, inLayout, times, timesBytes, parse}
-use Rattle.paper.specs.Table.{Record, Update, recordField, updateField, recordsWithin, headsWithin, headDigest, counted}
+use Rattle.paper.specs.Table.{Record, Update, recordField, updateField, recordsWithin, headsWithin, headOf, headDigest, counted}
 use Rattle.paper.specs.Publish.{newRecord, once, unpublished, batchWithin, publish}
 use Rattle.paper.specs.declared.State.{State}
 use Rattle.paper.specs.declared.PublishAnswer.the-variants as P
@@ -21,6 +22,7 @@ use Rattle.paper.proofs.Lists.{true-or-false, not-both, and-left, and-right, an
 use Rattle.paper.proofs.Layouts.{times-lawful, parse-bytes}
 use Rattle.paper.proofs.Proofs.{record-lawful}
 use Rattle.paper.proofs.Success.{record-new}
+use Rattle.paper.proofs.Fits.{digest-wide}
 use Rattle.record.specs.Places.{recordsIn, Stands}
 use Rattle.table.specs.Shape.{shaped, Shaped}
 use Rattle.table.proofs.Read.{counted-told, counted-stands}
@@ -80,12 +82,15 @@ module _ (records heads : Bytes) (count epoch : ℕ) (batch : Bytes) where
       }
 
   -- an epoch in the head table has few bits
-  pub epoch-small : Good → (epoch + 2) * wide ≤ length heads → suc epoch < 2 ^ 32
+  epoch-few : Good → (epoch + 2) * wide ≤ length heads → suc epoch < headsMost
   unfolding headsWithin
-  epoch-small g h =
+  epoch-few g h =
       let w = and-left _ _ (and-right (recordsWithin records) _ (g .within)) in
       let k = leb-true (length heads / wide) headsMost (and-right (leb 1 (length heads / wide)) _ (and-right (eqb (length heads % wide) 0) _ w)) in
       omega (arith, k)
+
+  pub epoch-small : Good → (epoch + 2) * wide ≤ length heads → suc epoch < 2 ^ 32
+  epoch-small g h = omega (arith, epoch-few g h)
 
   -- the table has at most 4,096 records
   pub records-few : Good → length records ≤ 4096 * 168
@@ -140,13 +145,23 @@ module _ (records heads : Bytes) (count epoch : ℕ) (batch : Bytes) where
     count-is : length more ≡ n
     count-is = length-map us (newRecord plain rs (suc epoch)) ∙ updates-length n batch
 
+    free : room ≡ true → (count + n) * recordSize ≤ length records
+    free r = leb-true ((count + n) * recordSize) (length records) (and-left _ _ r)
+
+    slot : room ≡ true → (epoch + 2) * wide ≤ length heads
+    slot r = leb-true ((epoch + 2) * wide) (length heads) (and-right (leb ((count + n) * recordSize) (length records)) _ r)
+
     pub clear-leaves : once plain us ≡ true → room ≡ true → versions ≡ true → apart epoch (rs ++ more) ≡ true → (fresh head : Bytes)
         → take (n * recordSize) fresh ≡ timesBytes (recordField .bytes) more → head ≡ headDigest plain heads (suc epoch) (rs ++ more)
         → Clear records heads state batch fresh head
     clear-leaves o r v e fresh head b h = record {
       leaves = passed records heads state batch us (g .within) (g .layout) rs (s .lies) (s .shape) (s .read) o (fits-is ∙ and-both r v) e ∙ rw (count-is, ← b, ← h);
-      room = leb-true ((count + n) * recordSize) (length records) (and-left _ _ r);
-      slot = leb-true ((epoch + 2) * wide) (length heads) (and-right (leb ((count + n) * recordSize) (length records)) _ r);
+      room = free r;
+      slot = slot r;
+      few = g .few;
+      most = omega (arith, free r, records-few g);
+      epochs = epoch-few g (slot r);
+      size = ap length h ∙ digest-wide (headString (headOf plain heads (suc epoch) (rs ++ more))) .size;
     }
 
     -- ---- the new records, where they are prepared

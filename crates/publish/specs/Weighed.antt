@@ -6,7 +6,7 @@ use Prim.Native.Nat.{ℕ, suc, _+_, _*_, _/_, _≤_, _<_}
 use lib.Dec.{leb}
 use lib.ListN.{length, take, drop}
 use Rattle.paper.specs.Lists.{every}
-use Rattle.paper.specs.Numbers.{wide, versionMost, recordSize, recordsMost, updateSize, CLASH}
+use Rattle.paper.specs.Numbers.{wide, versionMost, recordSize, recordsMost, updateSize, batchMost, headsMost, CLASH}
 use Rattle.paper.specs.Bytes.{Bytes, be, zeros, pasted}
 use Rattle.paper.specs.Labelling.{plain}
 use Rattle.paper.specs.Layout.{times, timesBytes, parse, inLayout}
@@ -78,6 +78,10 @@ pub record Clear (records heads : Bytes) (state : State) (batch fresh head : Byt
   pub leaves : publish plain records heads state batch ≡ leaving records heads state (length batch / updateSize) fresh head
   pub room : (state .count + length batch / updateSize) * recordSize ≤ length records
   pub slot : (state .epoch + 2) * wide ≤ length heads
+  pub few : length batch / updateSize ≤ batchMost
+  pub most : state .count + length batch / updateSize ≤ recordsMost
+  pub epochs : suc (state .epoch) < headsMost
+  pub size : length head ≡ wide
 
 -- number 0 says that nothing does; another is the refusal's
 pub record Weighs (records heads : Bytes) (state : State) (batch fresh : Bytes) (r : Weighed) : Type 0 where

@@ -2,9 +2,11 @@
 // tables that are only lent to be read; then the records and the head are written, and nothing else is.
 mod fresh;
 mod plant;
+mod publishing;
 mod starting;
 mod weigh;
 
+pub use publishing::publish;
 pub use starting::start;
 
 // The number of a refusal, or 0 and the new epoch's head.

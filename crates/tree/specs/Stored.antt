@@ -30,6 +30,13 @@ pub record Range (from : ℕ) (S : List Node) : Type 0 where
   pub size : length shared ≡ from
   pub shares : All (λ x. Pfx shared (key x)) S
 
+-- a part of the leaves below the root: one leaf or more, which share one bit or more
+pub record Part (n from : ℕ) (s : Bytes) : Type 0 where
+  pub some : 1 ≤ n
+  pub deep : 1 ≤ from
+  pub sorted : Sorted n s
+  pub range : Range from (leavesIn n s)
+
 -- "the bit after the prefix sends each label left (0) or right (1)": the first m of the leaves have a 0 at bit k, and the others a 1
 pub record Cut (k : ℕ) (S : List Node) (m : ℕ) : Type 0 where
   pub most : m ≤ length S
@@ -45,7 +52,7 @@ pub record Forked (S : List Node) (k m : ℕ) : Type 0 where
   pub cut : Cut k S m
 
 -- the tree below the root over these leaves: its digest, and its slots, one fewer than leaves
-pub record Below (S : List Node) (d slots : Bytes) : Type 0 where
+pub record BelowLaid (S : List Node) (d slots : Bytes) : Type 0 where
   pub node : d ≡ digest (top (build 256 S))
   pub inside : slots ≡ flat (build 256 S)
 

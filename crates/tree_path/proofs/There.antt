@@ -21,11 +21,13 @@ use Rattle.paper.specs.Level.{leavesIn}
 use Rattle.paper.proofs.Lists.{true-or-false, not-both, all-in, all-take, all-drop}
 use Rattle.paper.proofs.Bytes.{bitsOf-length, number-lt}
 use Rattle.paper.proofs.Walk.{sameBits-eq}
+use Rattle.paper.proofs.Fits.{path-fits}
 use Rattle.paper.proofs.Honest.{LeafSized, LeafSet, held-not, way-present, way-absent, way-fits}
 use Rattle.bit_order.proofs.Sides.{ordered-free}
 use Rattle.words.proofs.Pasted.{length-part}
 use Rattle.tree.specs.Stored.{Sorted}
 use Rattle.tree.proofs.Rising.{rising-ordered}
+use Rattle.tree_path.proofs.Ends.{size-most, path-size}
 
 leaves-sized : (n : ℕ) (s : Bytes) → n * 68 ≤ length s → Bytewise s → All LeafSized (leavesIn n s)
 unfolding leavesIn
@@ -83,6 +85,12 @@ module _ (n : ℕ) (s label : Bytes) (h : Sorted n s) (w : Bytewise s) (size : l
 
   pub way-in-layout : pathField .Fits (way (bitsOf label) (root (leavesIn n s)))
   way-in-layout = way-fits (leavesIn n s) (leaf-set n s h w) (bitsOf label) long
+
+  -- a path has 256 steps at most, and the longest end has 99 bytes
+  pub path-most : length (pathField .bytes (way (bitsOf label) (root (leavesIn n s)))) ≤ 8805
+  path-most =
+      let t = root (leavesIn n s) in
+      omega (arith, path-size (bitsOf label) t way-in-layout, path-fits (way (bitsOf label) t) way-in-layout .most, size-most (endKind (wayEnd (bitsOf label) t)))
 
   pub label-there : eqb (endKind (wayEnd (bitsOf label) (root (leavesIn n s)))) 0 ≡ holds (bitsOf label) (leavesIn n s)
   label-there = there (leavesIn n s) (bitsOf label) (leaf-set n s h w) long

@@ -14,7 +14,7 @@ ghost use Rattle.paper.specs.Path as P;
 ghost use Rattle.paper.specs.Fields.{pathField};
 ghost use Rattle.paper.specs.Table.{holds};
 ghost use Rattle.paper.specs.Level.{entryLeaf, leavesIn};
-ghost use Rattle.tree.specs.Stored.{Sorted, Range};
+ghost use Rattle.tree.specs.Stored.{Sorted, Range, Part};
 ghost use Rattle.tree_path.specs.Written.{wayOf, endSize};
 
 // The number of a path's steps, and the kind of its end: 0 this leaf, 1 another leaf, 2 another inner node, 3 nothing.
@@ -63,7 +63,7 @@ fn stepped(rest: Way) -> Way
 
 // The way below the root. Each part shares more bits than the whole did: at most 256 calls stand within one another.
 fn way_below(s: &[u8], n: usize, from: usize, label: &[u8]) -> Way
-    requires { ⌜ (1 ≤ n) × (1 ≤ from) × Sorted n (now s) × Range from (leavesIn n (now s)) × (length (now label) ≡ 32) ⌝ }
+    requires { ⌜ Part n from (now s) × (length (now label) ≡ 32) ⌝ }
     ensures { λ r. ⌜ r ≡ wayOf (bitsOf (now (label .entry))) (build 256 (leavesIn n (now (s .entry)))) ⌝ }
 {
     if n == 1 {

@@ -4,8 +4,8 @@ use borrow.Author.Needs.{needs}
 use native.Mathlib.Omega.{arith}
 use mathlib.Core.Path.{_≡_, sym, ap, _∙_}
 use mathlib.Core.List.{_++_}
-use Prim.Native.Nat.{ℕ, _+_, _-_, _*_, _≤_, _<_}
-use lib.ListN.{length, take, drop, length-append, length-drop}
+use Prim.Native.Nat.{ℕ, _-_, _*_, _<_}
+use lib.ListN.{length, take, drop, length-drop}
 use lib.Seq.{length-take-le}
 use Rattle.tree.proofs.Halves.{Halves, halves, before-sorted, behind-sorted}
 use Rattle.tree.proofs.Slots.{Over, length-first, length-all, laid-over, below-one-leaf, below-fork, both-wide}
@@ -48,15 +48,15 @@ module _ (t : ℕ) where
   )
 
   leaf-digest-requires : below-lts.Need-leaf-digest-requires claims (below-at t) below.Post
-  leaf-digest-requires c κs = let h = c .before .before .before .pre .1 .2 .size in omega arith
+  leaf-digest-requires c κs = let h = c .before .before .before .pre .1 .0 .sorted .size in omega arith
 
   returns : below-lts.Need-returns claims (below-at t) below.Post
   returns c =
       let start = c .before .before .before .before in
-      below-one-leaf (start .args .n) (start .args .s .now) (c .leaf-digest .result) (start .args .slots .now) (c .before .if1 .taken) (c .leaf-digest .ensures) (start .pre .1 .4)
+      below-one-leaf (start .args .n) (start .args .s .now) (c .leaf-digest .result) (start .args .slots .now) (c .before .if1 .taken) (c .leaf-digest .ensures) (start .pre .1 .1)
 
   fork-of-requires : below-lts.Need-fork-of-requires claims (below-at t) below.Post
-  fork-of-requires c κs = let start = c .before .before .before in let h = start .pre .1 .0 in (omega arith, start .pre .1 .2)
+  fork-of-requires c κs = let start = c .before .before .before in let h = start .pre .1 .0 .some in (omega arith, start .pre .1 .0 .sorted)
 
   abbrev start : below-lts.After-fork-of claims (below-at t) below.Post → below-lts.Start claims (below-at t) below.Post
   start c = c .before .before .before .before
@@ -64,32 +64,32 @@ module _ (t : ℕ) where
   cut : (c : below-lts.After-fork-of claims (below-at t) below.Post) → Halves (start c .args .n) (start c .args .from) (start c .args .s .now) (c .fork-of .result .length) (c .fork-of .result .left)
   cut c =
       let a = start c .args in
-      let h = start c .pre .1 in
-      halves (a .n) (a .from) (a .s .now) (c .fork-of .result .length) (c .fork-of .result .left) (h .2) (h .1) (h .3) (c .fork-of .ensures)
+      let h = start c .pre .1 .0 in
+      halves (a .n) (a .from) (a .s .now) (c .fork-of .result .length) (c .fork-of .result .left) (h .sorted) (h .deep) (h .range) (c .fork-of .ensures)
 
   mul-middle : below-lts.Need-mul-middle claims (below-at t) below.Post
-  mul-middle c = let h = cut c in omega (arith, h .small, h .least, h .less, start c .pre .1 .2 .size, start c .pre .1 .4)
+  mul-middle c = let h = cut c in omega (arith, h .small, h .least, h .less, start c .pre .1 .0 .sorted .size, start c .pre .1 .1)
 
   sub-slot : below-lts.Need-sub-slot claims (below-at t) below.Post
-  sub-slot c = let h = cut c in omega (arith, h .small, h .least, h .less, start c .pre .1 .2 .size, start c .pre .1 .4)
+  sub-slot c = let h = cut c in omega (arith, h .small, h .least, h .less, start c .pre .1 .0 .sorted .size, start c .pre .1 .1)
 
   mul-slot : below-lts.Need-mul-slot claims (below-at t) below.Post
-  mul-slot c = let h = cut c in omega (arith, h .small, h .least, h .less, start c .pre .1 .2 .size, start c .pre .1 .4)
+  mul-slot c = let h = cut c in omega (arith, h .small, h .least, h .less, start c .pre .1 .0 .sorted .size, start c .pre .1 .1)
 
   mul-behind : below-lts.Need-mul-behind claims (below-at t) below.Post
-  mul-behind c = let h = cut c in omega (arith, h .small, h .least, h .less, start c .pre .1 .2 .size, start c .pre .1 .4)
+  mul-behind c = let h = cut c in omega (arith, h .small, h .least, h .less, start c .pre .1 .0 .sorted .size, start c .pre .1 .1)
 
   slice-aggregate-below : below-lts.Need-slice-aggregate-below claims (below-at t) below.Post
-  slice-aggregate-below c = sym (length-take-le (c .before .fork-of .result .left * 68) (start (c .before) .args .s .now) (let h = cut (c .before) in omega (arith, h .small, h .least, h .less, start (c .before) .pre .1 .2 .size, start (c .before) .pre .1 .4)))
+  slice-aggregate-below c = sym (length-take-le (c .before .fork-of .result .left * 68) (start (c .before) .args .s .now) (let h = cut (c .before) in omega (arith, h .small, h .least, h .less, start (c .before) .pre .1 .0 .sorted .size, start (c .before) .pre .1 .1)))
 
   add-below : below-lts.Need-add-below claims (below-at t) below.Post
-  add-below c = let h = cut (c .before) in omega (arith, h .small, h .least, h .less, start (c .before) .pre .1 .2 .size, start (c .before) .pre .1 .4)
+  add-below c = let h = cut (c .before) in omega (arith, h .small, h .least, h .less, start (c .before) .pre .1 .0 .sorted .size, start (c .before) .pre .1 .1)
 
   slice-relend-prefix-below : below-lts.Need-slice-relend-prefix-below claims (below-at t) below.Post
-  slice-relend-prefix-below c = let h = cut (c .before) in omega (arith, h .small, h .least, h .less, start (c .before) .pre .1 .2 .size, start (c .before) .pre .1 .4)
+  slice-relend-prefix-below c = let h = cut (c .before) in omega (arith, h .small, h .least, h .less, start (c .before) .pre .1 .0 .sorted .size, start (c .before) .pre .1 .1)
 
   slice-aggregate-below-2 : below-lts.Need-slice-aggregate-below-2 claims (below-at t) below.Post
-  slice-aggregate-below-2 c = sym (length-take-le ((c .before .before .fork-of .result .left - 1) * 64) (start (c .before .before) .args .slots .now) (let h = cut (c .before .before) in omega (arith, h .small, h .least, h .less, start (c .before .before) .pre .1 .2 .size, start (c .before .before) .pre .1 .4)))
+  slice-aggregate-below-2 c = sym (length-take-le ((c .before .before .fork-of .result .left - 1) * 64) (start (c .before .before) .args .slots .now) (let h = cut (c .before .before) in omega (arith, h .small, h .least, h .less, start (c .before .before) .pre .1 .0 .sorted .size, start (c .before .before) .pre .1 .1)))
 
   below-requires : below-lts.Need-below-requires claims (below-at t) below.Post
   below-requires c κs =
@@ -99,13 +99,7 @@ module _ (t : ℕ) where
       let m = w .fork-of .result .left in
       let q = start w .pre .0 in (
         omega (arith, q, h .deeper, h .small),
-        (
-          h .least,
-          omega arith,
-          before-sorted (a .n) (a .s .now) (start w .pre .1 .2) m (omega (arith, h .less)),
-          h .left,
-          length-take-le ((m - 1) * 64) (a .slots .now) (omega (arith, h .least, h .less, start w .pre .1 .4)),
-        ),
+        (record { some = h .least; deep = omega arith; sorted = before-sorted (a .n) (a .s .now) (start w .pre .1 .0 .sorted) m (omega (arith, h .less)); range = h .left }, length-take-le ((m - 1) * 64) (a .slots .now) (omega (arith, h .least, h .less, start w .pre .1 .1))),
       )
 
   over : (c : below-lts.After-below claims (below-at t) below.Post)
@@ -115,7 +109,7 @@ module _ (t : ℕ) where
       let h = cut w in
       let m = w .fork-of .result .left in
       let o = start w .args .slots .now in
-      let l = start w .pre .1 .4 in
+      let l = start w .pre .1 .1 in
       record {
         next = omega (arith, h .least);
         within = omega (arith, h .least, h .less, l);
@@ -134,25 +128,25 @@ module _ (t : ℕ) where
       ap length (rest-is (second c) b) ∙ length-drop b (second c) ∙ ap (λ i. i - b) (length-first _ _ _ _ _ (over c))
 
   sub-below : below-lts.Need-sub-below claims (below-at t) below.Post
-  sub-below c = let h = cut (c .before .before .before .before .before) in omega (arith, h .small, h .least, h .less, start (c .before .before .before .before .before) .pre .1 .2 .size, start (c .before .before .before .before .before) .pre .1 .4)
+  sub-below c = let h = cut (c .before .before .before .before .before) in omega (arith, h .small, h .least, h .less, start (c .before .before .before .before .before) .pre .1 .0 .sorted .size, start (c .before .before .before .before .before) .pre .1 .1)
 
   part-below-start : below-lts.Need-part-below-start claims (below-at t) below.Post
-  part-below-start c = let h = cut (c .before .before .before .before .before) in omega (arith, h .small, h .least, h .less, start (c .before .before .before .before .before) .pre .1 .2 .size, start (c .before .before .before .before .before) .pre .1 .4)
+  part-below-start c = let h = cut (c .before .before .before .before .before) in omega (arith, h .small, h .least, h .less, start (c .before .before .before .before .before) .pre .1 .0 .sorted .size, start (c .before .before .before .before .before) .pre .1 .1)
 
   part-below-end : below-lts.Need-part-below-end claims (below-at t) below.Post
   part-below-end c = search needs
 
   sub-below-2 : below-lts.Need-sub-below-2 claims (below-at t) below.Post
-  sub-below-2 c = let h = cut (c .before .before .before .before .before .before) in omega (arith, h .small, h .least, h .less, start (c .before .before .before .before .before .before) .pre .1 .2 .size, start (c .before .before .before .before .before .before) .pre .1 .4)
+  sub-below-2 c = let h = cut (c .before .before .before .before .before .before) in omega (arith, h .small, h .least, h .less, start (c .before .before .before .before .before .before) .pre .1 .0 .sorted .size, start (c .before .before .before .before .before .before) .pre .1 .1)
 
   add-below-2 : below-lts.Need-add-below-2 claims (below-at t) below.Post
-  add-below-2 c = let h = cut (c .before .before .before .before .before .before) in omega (arith, h .small, h .least, h .less, start (c .before .before .before .before .before .before) .pre .1 .2 .size, start (c .before .before .before .before .before .before) .pre .1 .4)
+  add-below-2 c = let h = cut (c .before .before .before .before .before .before) in omega (arith, h .small, h .least, h .less, start (c .before .before .before .before .before .before) .pre .1 .0 .sorted .size, start (c .before .before .before .before .before .before) .pre .1 .1)
 
   sub-below-3 : below-lts.Need-sub-below-3 claims (below-at t) below.Post
-  sub-below-3 c = let h = cut (c .before .before .before .before .before .before) in omega (arith, h .small, h .least, h .less, start (c .before .before .before .before .before .before) .pre .1 .2 .size, start (c .before .before .before .before .before .before) .pre .1 .4, length-first _ _ _ _ _ (over (c .before .before .before)))
+  sub-below-3 c = let h = cut (c .before .before .before .before .before .before) in omega (arith, h .small, h .least, h .less, start (c .before .before .before .before .before .before) .pre .1 .0 .sorted .size, start (c .before .before .before .before .before .before) .pre .1 .1, length-first _ _ _ _ _ (over (c .before .before .before)))
 
   part-below-start-2 : below-lts.Need-part-below-start-2 claims (below-at t) below.Post
-  part-below-start-2 c = let h = cut (c .before .before .before .before .before .before) in omega (arith, h .small, h .least, h .less, start (c .before .before .before .before .before .before) .pre .1 .2 .size, start (c .before .before .before .before .before .before) .pre .1 .4, length-first _ _ _ _ _ (over (c .before .before .before)))
+  part-below-start-2 c = let h = cut (c .before .before .before .before .before .before) in omega (arith, h .small, h .least, h .less, start (c .before .before .before .before .before .before) .pre .1 .0 .sorted .size, start (c .before .before .before .before .before .before) .pre .1 .1, length-first _ _ _ _ _ (over (c .before .before .before)))
 
   part-below-end-2 : below-lts.Need-part-below-end-2 claims (below-at t) below.Post
   part-below-end-2 c = search needs
@@ -166,13 +160,7 @@ module _ (t : ℕ) where
       let q = start w .pre .0 in
       let l = length-first _ _ _ _ _ (over (c .before .before .before .before)) in (
         omega (arith, q, h .deeper, h .small),
-        (
-          omega (arith, h .less),
-          omega arith,
-          behind-sorted (a .n) (a .s .now) (start w .pre .1 .2) m (omega (arith, h .less)),
-          h .right,
-          length-rest (c .before .before .before .before) ∙ omega (arith, h .less, start w .pre .1 .4),
-        ),
+        (record { some = omega (arith, h .less); deep = omega arith; sorted = behind-sorted (a .n) (a .s .now) (start w .pre .1 .0 .sorted) m (omega (arith, h .less)); range = h .right }, length-rest (c .before .before .before .before) ∙ omega (arith, h .less, start w .pre .1 .1)),
       )
 
   right-length : (c : below-lts.After-below2 claims (below-at t) below.Post)
@@ -184,13 +172,13 @@ module _ (t : ℕ) where
       let w = c .before .before .before .before .before .before .before .before .before .before .before .before .before in
       let h = cut w in
       let first = c .before .before .before .before .before .before .before .before .before .before in
-      omega (arith, h .least, h .less, start w .pre .1 .4, length-all _ _ _ _ _ (over first) (c .before .before .before .before .before .below2 .last .1 .1 .1 .0) (right-length (c .before .before .before .before .before)))
+      omega (arith, h .least, h .less, start w .pre .1 .1, length-all _ _ _ _ _ (over first) (c .before .before .before .before .before .below2 .last .1 .1 .1 .0) (right-length (c .before .before .before .before .before)))
 
   fork-digest-requires : below-lts.Need-fork-digest-requires claims (below-at t) below.Post
   fork-digest-requires c κs =
       let w = c .before .before .before .before .before .before .before .before .before .before .before .before .before .before .before .before .before .before in
       let h = cut w in
-      (omega (arith, h .less, start w .pre .1 .2 .size), omega (arith, h .small))
+      (omega (arith, h .less, start w .pre .1 .0 .sorted .size), omega (arith, h .small))
 
   same-length : below-lts.Need-same-length claims (below-at t) below.Post
   same-length c =

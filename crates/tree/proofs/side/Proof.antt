@@ -34,7 +34,7 @@ below-requires : tie.Need-below-requires
 below-requires c κs =
     let start = c .before .before .before .before in
     let a = start .args in
-    (omega arith, omega arith, start .pre .0, start .pre .1, length-take-le ((a .n - 1) * 64) (a .slots .now) (omega (arith, start .pre .2)))
+    (record { some = omega arith; deep = omega arith; sorted = start .pre .0; range = start .pre .1 }, length-take-le ((a .n - 1) * 64) (a .slots .now) (omega (arith, start .pre .2)))
 
 same-length : tie.Need-same-length
 same-length c = search needs

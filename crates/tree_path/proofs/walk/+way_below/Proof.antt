@@ -58,7 +58,7 @@ module _ (t : ℕ) where
   Pre = way-below-at t
 
   leaf-way-requires : way-below-lts.Need-leaf-way-requires claims Pre way-below.Post
-  leaf-way-requires c κs = let start = c .before .before .before in (omega (arith, start .pre .1 .2 .size), start .pre .1 .4)
+  leaf-way-requires c κs = let start = c .before .before .before in (omega (arith, start .pre .1 .0 .sorted .size), start .pre .1 .1)
 
   returns : way-below-lts.Need-returns claims Pre way-below.Post
   returns c =
@@ -66,7 +66,7 @@ module _ (t : ℕ) where
       c .leaf-way .ensures ∙ ap (λ i. wayOf (bitsOf (start .args .label .now)) (build 256 (leavesIn i (start .args .s .now)))) (sym (c .before .if1 .taken))
 
   fork-of-requires : way-below-lts.Need-fork-of-requires claims Pre way-below.Post
-  fork-of-requires c κs = let start = c .before .before .before in (omega (arith, start .pre .1 .0), start .pre .1 .2)
+  fork-of-requires c κs = let start = c .before .before .before in (omega (arith, start .pre .1 .0 .some), start .pre .1 .0 .sorted)
 
   abbrev start : way-below-lts.After-fork-of claims Pre way-below.Post → way-below-lts.Start claims Pre way-below.Post
   start c = c .before .before .before .before
@@ -74,17 +74,17 @@ module _ (t : ℕ) where
   cut : (c : way-below-lts.After-fork-of claims Pre way-below.Post) → Halves (start c .args .n) (start c .args .from) (start c .args .s .now) (c .fork-of .result .length) (c .fork-of .result .left)
   cut c =
       let a = start c .args in
-      let h = start c .pre .1 in
-      halves (a .n) (a .from) (a .s .now) (c .fork-of .result .length) (c .fork-of .result .left) (h .2) (h .1) (h .3) (c .fork-of .ensures)
+      let h = start c .pre .1 .0 in
+      halves (a .n) (a .from) (a .s .now) (c .fork-of .result .length) (c .fork-of .result .left) (h .sorted) (h .deep) (h .range) (c .fork-of .ensures)
 
   size : (c : way-below-lts.After-fork-of claims Pre way-below.Post) → length (take (c .fork-of .result .length) (key (entryLeaf (start c .args .s .now)))) ≡ c .fork-of .result .length
-  size c = let h = cut c in prefix-size (start c .args .s .now) (c .fork-of .result .length) (omega (arith, h .less, start c .pre .1 .2 .size)) (omega (arith, h .small))
+  size c = let h = cut c in prefix-size (start c .args .s .now) (c .fork-of .result .length) (omega (arith, h .less, start c .pre .1 .0 .sorted .size)) (omega (arith, h .small))
 
   long : (c : way-below-lts.After-fork-of claims Pre way-below.Post) → length (bitsOf (start c .args .label .now)) ≡ 256
-  long c = omega (arith, bitsOf-length (start c .args .label .now), start c .pre .1 .4)
+  long c = omega (arith, bitsOf-length (start c .args .label .now), start c .pre .1 .1)
 
   has-prefix-requires : way-below-lts.Need-has-prefix-requires claims Pre way-below.Post
-  has-prefix-requires c κs = let h = cut c in (omega (arith, h .less, start c .pre .1 .2 .size), omega (arith, h .small), start c .pre .1 .4)
+  has-prefix-requires c κs = let h = cut c in (omega (arith, h .less, start c .pre .1 .0 .sorted .size), omega (arith, h .small), start c .pre .1 .1)
 
   returns-2 : way-below-lts.Need-returns-2 claims Pre way-below.Post
   returns-2 c =
@@ -92,25 +92,25 @@ module _ (t : ℕ) where
       sym (off-way (bitsOf (start w .args .label .now)) _ _ _ _ (cut w .tree) (sym (c .before .has-prefix .ensures) ∙ not-true _ (c .if2 .taken)))
 
   mul-middle : way-below-lts.Need-mul-middle claims Pre way-below.Post
-  mul-middle c = let h = cut (c .before .before) in omega (arith, h .small, h .least, h .less, start (c .before .before) .pre .1 .2 .size)
+  mul-middle c = let h = cut (c .before .before) in omega (arith, h .small, h .least, h .less, start (c .before .before) .pre .1 .0 .sorted .size)
 
   label-bit-requires : way-below-lts.Need-label-bit-requires claims Pre way-below.Post
   label-bit-requires c κs = search needs
 
   sub-way-below : way-below-lts.Need-sub-way-below claims Pre way-below.Post
-  sub-way-below c = let h = cut (c .before .before .before .before) in omega (arith, h .small, h .least, h .less, start (c .before .before .before .before) .pre .1 .2 .size)
+  sub-way-below c = let h = cut (c .before .before .before .before) in omega (arith, h .small, h .least, h .less, start (c .before .before .before .before) .pre .1 .0 .sorted .size)
 
   part-way-below-start : way-below-lts.Need-part-way-below-start claims Pre way-below.Post
-  part-way-below-start c = let h = cut (c .before .before .before .before) in omega (arith, h .small, h .least, h .less, start (c .before .before .before .before) .pre .1 .2 .size)
+  part-way-below-start c = let h = cut (c .before .before .before .before) in omega (arith, h .small, h .least, h .less, start (c .before .before .before .before) .pre .1 .0 .sorted .size)
 
   part-way-below-end : way-below-lts.Need-part-way-below-end claims Pre way-below.Post
   part-way-below-end c = search needs
 
   sub-way-below-2 : way-below-lts.Need-sub-way-below-2 claims Pre way-below.Post
-  sub-way-below-2 c = let h = cut (c .before .before .before .before .before) in omega (arith, h .small, h .least, h .less, start (c .before .before .before .before .before) .pre .1 .2 .size)
+  sub-way-below-2 c = let h = cut (c .before .before .before .before .before) in omega (arith, h .small, h .least, h .less, start (c .before .before .before .before .before) .pre .1 .0 .sorted .size)
 
   add-way-below : way-below-lts.Need-add-way-below claims Pre way-below.Post
-  add-way-below c = let h = cut (c .before .before .before .before .before) in omega (arith, h .small, h .least, h .less, start (c .before .before .before .before .before) .pre .1 .2 .size)
+  add-way-below c = let h = cut (c .before .before .before .before .before) in omega (arith, h .small, h .least, h .less, start (c .before .before .before .before .before) .pre .1 .0 .sorted .size)
 
   way-below-requires : way-below-lts.Need-way-below-requires claims Pre way-below.Post
   way-below-requires c κs =
@@ -118,7 +118,7 @@ module _ (t : ℕ) where
       let a = start w .args in
       let h = cut w in
       let q = start w .pre .0 in
-      (omega (arith, q, h .deeper, h .small), (omega (arith, h .less), omega arith, behind-sorted (a .n) (a .s .now) (start w .pre .1 .2) (w .fork-of .result .left) (omega (arith, h .less)), h .right, start w .pre .1 .4))
+      (omega (arith, q, h .deeper, h .small), (record { some = omega (arith, h .less); deep = omega arith; sorted = behind-sorted (a .n) (a .s .now) (start w .pre .1 .0 .sorted) (w .fork-of .result .left) (omega (arith, h .less)); range = h .right }, start w .pre .1 .1))
 
   stepped-requires : way-below-lts.Need-stepped-requires claims Pre way-below.Post
   stepped-requires c κs =
@@ -127,7 +127,7 @@ module _ (t : ℕ) where
       let h = cut w in
       let m = w .fork-of .result .left in
       let k = w .fork-of .result .length in
-      omega (arith, ap (λ v. v .steps) (c .way-below .ensures), steps-few (a .n - m) (k + 1) (behind m (a .s .now)) (bitsOf (a .label .now)) (behind-sorted (a .n) (a .s .now) (start w .pre .1 .2) m (omega (arith, h .less))) (h .right) (omega arith) (long w))
+      omega (arith, ap (λ v. v .steps) (c .way-below .ensures), steps-few (a .n - m) (k + 1) (behind m (a .s .now)) (bitsOf (a .label .now)) (behind-sorted (a .n) (a .s .now) (start w .pre .1 .0 .sorted) m (omega (arith, h .less))) (h .right) (omega arith) (long w))
 
   returns-3 : way-below-lts.Need-returns-3 claims Pre way-below.Post
   returns-3 c =
@@ -141,10 +141,10 @@ module _ (t : ℕ) where
       c .stepped .ensures ∙ turn-way L _ _ _ _ (cut w .tree) (w .fork-of .result .length) (size w) begun true bit (found .way-below .result) (found .way-below .ensures)
 
   slice-aggregate-way-below : way-below-lts.Need-slice-aggregate-way-below claims Pre way-below.Post
-  slice-aggregate-way-below c = let w = c .before .before .before .before .before in sym (length-take-le (w .fork-of .result .left * 68) (start w .args .s .now) (let h = cut (c .before .before .before .before .before) in omega (arith, h .small, h .least, h .less, start (c .before .before .before .before .before) .pre .1 .2 .size)))
+  slice-aggregate-way-below c = let w = c .before .before .before .before .before in sym (length-take-le (w .fork-of .result .left * 68) (start w .args .s .now) (let h = cut (c .before .before .before .before .before) in omega (arith, h .small, h .least, h .less, start (c .before .before .before .before .before) .pre .1 .0 .sorted .size)))
 
   add-way-below-2 : way-below-lts.Need-add-way-below-2 claims Pre way-below.Post
-  add-way-below-2 c = let h = cut (c .before .before .before .before .before) in omega (arith, h .small, h .least, h .less, start (c .before .before .before .before .before) .pre .1 .2 .size)
+  add-way-below-2 c = let h = cut (c .before .before .before .before .before) in omega (arith, h .small, h .least, h .less, start (c .before .before .before .before .before) .pre .1 .0 .sorted .size)
 
   way-below-requires-2 : way-below-lts.Need-way-below-requires-2 claims Pre way-below.Post
   way-below-requires-2 c κs =
@@ -152,7 +152,7 @@ module _ (t : ℕ) where
       let a = start w .args in
       let h = cut w in
       let q = start w .pre .0 in
-      (omega (arith, q, h .deeper, h .small), (h .least, omega arith, before-sorted (a .n) (a .s .now) (start w .pre .1 .2) (w .fork-of .result .left) (omega (arith, h .less)), h .left, start w .pre .1 .4))
+      (omega (arith, q, h .deeper, h .small), (record { some = h .least; deep = omega arith; sorted = before-sorted (a .n) (a .s .now) (start w .pre .1 .0 .sorted) (w .fork-of .result .left) (omega (arith, h .less)); range = h .left }, start w .pre .1 .1))
 
   stepped-requires-2 : way-below-lts.Need-stepped-requires-2 claims Pre way-below.Post
   stepped-requires-2 c κs =
@@ -161,7 +161,7 @@ module _ (t : ℕ) where
       let h = cut w in
       let m = w .fork-of .result .left in
       let k = w .fork-of .result .length in
-      omega (arith, ap (λ v. v .steps) (c .way-below2 .ensures), steps-few m (k + 1) (before m (a .s .now)) (bitsOf (a .label .now)) (before-sorted (a .n) (a .s .now) (start w .pre .1 .2) m (omega (arith, h .less))) (h .left) (omega arith) (long w))
+      omega (arith, ap (λ v. v .steps) (c .way-below2 .ensures), steps-few m (k + 1) (before m (a .s .now)) (bitsOf (a .label .now)) (before-sorted (a .n) (a .s .now) (start w .pre .1 .0 .sorted) m (omega (arith, h .less))) (h .left) (omega arith) (long w))
 
   returns-4 : way-below-lts.Need-returns-4 claims Pre way-below.Post
   returns-4 c =

@@ -3,8 +3,9 @@ use borrow.Author.Needs.{needs}
 use native.Mathlib.Omega.{arith}
 use mathlib.Core.Path.{sym, ap, _∙_}
 use Rattle.paper.specs.Bits.{bitsOf}
+use Rattle.tree.proofs.Leaves.{bare}
 use Rattle.tree_path.specs.Written.{wayOf}
-use Rattle.tree_path.proofs.Ways.{bare, none-way}
+use Rattle.tree_path.proofs.Ways.{none-way}
 use Rattle.tree_path.proofs.walk.way_side.Statement.{statement}
 use Rattle.tree_path.proofs.walk.way_side.Tie as tie
 
@@ -14,7 +15,7 @@ returns c =
     sym (ap (wayOf (bitsOf (a .label .now))) (bare (a .n) (a .s .now) (c .if1 .taken)) ∙ none-way (bitsOf (a .label .now)))
 
 way-below-requires : tie.Need-way-below-requires
-way-below-requires c κs = let start = c .before .before .before in (omega arith, omega arith, start .pre .0, start .pre .1, start .pre .2)
+way-below-requires c κs = let start = c .before .before .before in (record { some = omega arith; deep = omega arith; sorted = start .pre .0; range = start .pre .1 }, start .pre .2)
 
 returns-2 : tie.Need-returns-2
 returns-2 c = search needs
