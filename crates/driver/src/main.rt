@@ -12,7 +12,9 @@ use print::print_bytes;
 use print::print_number;
 use print::print_refused;
 use print::print_text;
+use server::call_publish;
 use server::call_start;
+use server::call_tree_path;
 use server::call_tree_root;
 use space::blank;
 use space::read_at;
@@ -180,7 +182,9 @@ fn called(call: u8, r: Request, space: &mut [u8]) -> Request
         4 | 5 | 6 => call_check(call, r, space),
         7 => call_program(r, space),
         8 => call_tree_root(r, space),
+        9 => call_tree_path(r, space),
         10 => call_start(r, space),
+        11 => call_publish(r, space),
         _ => wire::spoilt(r),
     }
 }
