@@ -6,6 +6,7 @@ tests/server.py.
 
 prints the small examples of a call as a vector file.
 """
+import itertools
 import sys
 
 sys.dont_write_bytecode = True
@@ -22,6 +23,9 @@ HEADINGS = {
 }
 
 
+SAMPLED = 800  # a case with more bytes than these is none of the driver's sample, which would have 3 MB with all; tests/longest.py puts it
+
+
 def answered(left_out, *groups):
     for group in groups:
         for call, values in group():
@@ -29,14 +33,22 @@ def answered(left_out, *groups):
                 yield call, values, server.answer(call, values)
 
 
+def split(left_out):
+    """(call, values, answer) of every case but those of the calls left out: those of the sample, and the longer ones."""
+    parts = [], []
+    for case in answered(left_out, level_cases.given, publish_cases.given):
+        parts[SAMPLED < sum(len(x) for x in case[1] if isinstance(x, bytes))].append(case)
+    return parts
+
+
 def cases(left_out=()):
-    """(call, values, answer) of every case but those of the calls left out."""
-    return answered(left_out, level_cases.given, publish_cases.given)
+    """The cases of the driver's sample."""
+    return split(left_out)[0]
 
 
 def longest(left_out=()):
-    """The same of the largest cases."""
-    return answered(left_out, level_cases.at_bounds, publish_cases.at_bounds)
+    """The longer cases, and the largest."""
+    return itertools.chain(split(left_out)[1], answered(left_out, level_cases.at_bounds, publish_cases.at_bounds))
 
 
 def main():
