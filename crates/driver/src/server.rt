@@ -79,7 +79,7 @@ fn print_state(state: State) {
 
 // 10: the state, and the heads as they are left.
 fn answer_start(heads: &mut [u8]) {
-    match publish::start(heads) {
+    match start::start(heads) {
         StartAnswer::Started(state) => {
             print_state(state);
             print_bytes(heads);
