@@ -1,6 +1,6 @@
 -- Writing one string right behind another, and the steps and ends of a path so. Assumes nothing.
-use mathlib.Core.Path.{_≡_, sym, ap, ap₂, _∙_}
-use mathlib.Core.List.{[], _∷_, _++_}
+use mathlib.Core.Path.{_≡_, refl, sym, ap, ap₂, _∙_}
+use mathlib.Core.List.{List, [], _∷_, _++_, append-nil, append-assoc}
 use Prim.Native.Nat.{ℕ, _+_, _≤_, _<_}
 use native.Mathlib.Omega.{arith}
 use lib.ListN.{length, take, drop, set, length-append, take-append-drop}
@@ -9,6 +9,7 @@ use Rattle.paper.specs.Bytes.{Bytes, be, pasted}
 use Rattle.paper.specs.Bits.{Bits, pack}
 use Rattle.paper.specs.Tree.{Tree, build}
 use Rattle.paper.specs.Path.{off, waySteps, way}
+use Rattle.paper.specs.Layout.{timesBytes}
 use Rattle.paper.specs.Fields.{stepField, pathField}
 use Rattle.paper.specs.Level.{leavesIn}
 use Rattle.paper.proofs.Bytes.{be-length, pack-length}
@@ -22,11 +23,22 @@ use Rattle.tree_path.proofs.Ways as W
 pub laid-next : (o v u x y : Bytes) (at mid : ℕ) → at ≤ length o → v ≡ pasted o at x → mid ≡ at + length x → u ≡ pasted v mid y → u ≡ pasted o at (x ++ y)
 laid-next o v u x y at mid h e f g = g ∙ ap₂ (λ d i. pasted d i y) e f ∙ pasted-pasted o at x y h
 
-wrote-next : (o v u x y z : Bytes) (at mid r : ℕ) → at ≤ length o → v ≡ pasted o at x → mid ≡ at + length x → Wrote v mid y u r → z ≡ x ++ y → Wrote o at z u r
+pub wrote-next : (o v u x y z : Bytes) (at mid r : ℕ) → at ≤ length o → v ≡ pasted o at x → mid ≡ at + length x → Wrote v mid y u r → z ≡ x ++ y → Wrote o at z u r
 wrote-next o v u x y z at mid r h e f g q = record {
   laid = laid-next o v u x y at mid h e f (g .laid) ∙ ap (pasted o at) (sym q);
   behind = g .behind ∙ omega (arith, length-append x y, ap length q);
 }
+
+-- ---- values one behind the other
+
+pub times-append : {A : Type 0} (f : A → Bytes) (l m : List A) → timesBytes f (l ++ m) ≡ timesBytes f l ++ timesBytes f m
+unfolding timesBytes
+times-append f [] m = refl
+times-append f (x ∷ l) m = ap (λ k. f x ++ k) (times-append f l m) ∙ sym (append-assoc (f x) (timesBytes f l) (timesBytes f m))
+
+pub times-one : {A : Type 0} (f : A → Bytes) (x : A) → timesBytes f (x ∷ []) ≡ f x
+unfolding timesBytes
+times-one f x = append-nil (f x)
 
 -- ---- an end
 
