@@ -13,7 +13,7 @@ use Rattle.paper.specs.Bits.{Bits, Pfx, starts, _▹_}
 use Rattle.paper.specs.Strings.{Node, nodeString}
 use Rattle.paper.specs.Tree.{key, digest, Tree, fork, top, common, side, build}
 use Rattle.paper.specs.Level.{leavesIn}
-use Rattle.paper.proofs.Lists.{all-in, in-all}
+use Rattle.paper.proofs.Lists.{in-all}
 use Rattle.paper.proofs.Bits.{pfx-length, pfx-one-way, pfx-starts, length-snoc}
 use Rattle.paper.proofs.Tree.{Free, common-most, common-next, side-all, side-below, side-free, sides-full}
 use Rattle.paper.proofs.Walk.{no-starts}
@@ -21,8 +21,9 @@ use Rattle.paper.proofs.Fits.{digest-wide}
 use Rattle.bit_order.proofs.Sides.{ordered-free}
 use Rattle.words.proofs.Pasted.{rest-is}
 use Rattle.tree.specs.Stored.{flat, Sorted, Range}
-use Rattle.tree.proofs.Leaves.{leaves-length, leaves-long}
+use Rattle.tree.proofs.Leaves.{leaves-length, leaves-long, long-short, leaves-some}
 use Rattle.tree.proofs.Rising.{rising-ordered}
+use Rattle.tree.proofs.Slots.{slot-wide}
 use Rattle.tree.proofs.Halves.{before, behind, Halves, before-sorted, behind-sorted}
 
 -- each goes to one side
@@ -42,9 +43,7 @@ fork-size p l r = omega (
   arith,
   length-append (flat l) ((digest (top l) ++ digest (top r)) ++ flat r),
   length-append (digest (top l) ++ digest (top r)) (flat r),
-  length-append (digest (top l)) (digest (top r)),
-  digest-wide (nodeString (top l)) .size,
-  digest-wide (nodeString (top r)) .size,
+  slot-wide l r,
 )
 
 build-flat : (n : ℕ) (q : Bits) (S : List Node) → Free S → All (λ y. length (key y) ≤ 256) S → All (λ y. Pfx q (key y)) S → 256 < n + length q → ¬ (S ≡ [])
@@ -64,9 +63,8 @@ build-flat (suc n) q (x ∷ y ∷ S) f b h k ne =
 pub flat-size : (n from : ℕ) (s : Bytes) → Sorted n s → Range from (leavesIn n s) → 1 ≤ from → 1 ≤ n → length (flat (build 256 (leavesIn n s))) ≡ (n - 1) * 64
 flat-size n from s w r l h =
     let S = leavesIn n s in
-    let ne : ¬ (S ≡ []) = λ e. omega (arith, leaves-length n s, ap length e) in
-    let short = in-all (λ y. length (key y) ≤ 256) S (λ y m. omega (arith, all-in (λ y. length (key y) ≡ 256) S (leaves-long n s (omega (arith, w .size))) y m)) in
-    omega (arith, leaves-length n s, build-flat 256 (r .shared) S (ordered-free S (rising-ordered S (w .rises))) short (r .shares) (omega (arith, r .size)) ne)
+    let short = long-short S (leaves-long n s (omega (arith, w .size))) in
+    omega (arith, leaves-length n s, build-flat 256 (r .shared) S (ordered-free S (rising-ordered S (w .rises))) short (r .shares) (omega (arith, r .size)) (leaves-some n s h))
 
 -- ---- the slots of a fork, where n leaves part
 
@@ -87,16 +85,13 @@ module _ (n from : ℕ) (s : Bytes) (k m : ℕ) (w : Sorted n s) (h : Halves n f
   high-size : length (flat high) ≡ (n - m - 1) * 64
   high-size = flat-size (n - m) (k + 1) (behind m s) (behind-sorted n s w m (omega (arith, h .less))) (h .right) (omega arith) (omega (arith, h .less))
 
-  slot-size : length (digest (top low) ++ digest (top high)) ≡ 64
-  slot-size = omega (arith, length-append (digest (top low)) (digest (top high)), digest-wide (nodeString (top low)) .size, digest-wide (nodeString (top high)) .size)
-
   pub slots-size : length slots ≡ (n - 1) * 64
   slots-size = ap length parts ∙ omega (
     arith,
     length-append (flat low) ((digest (top low) ++ digest (top high)) ++ flat high),
     length-append (digest (top low) ++ digest (top high)) (flat high),
     low-size,
-    slot-size,
+    slot-wide low high,
     high-size,
     h .least,
     h .less,
@@ -109,12 +104,12 @@ module _ (n from : ℕ) (s : Bytes) (k m : ℕ) (w : Sorted n s) (h : Halves n f
   from-slot = ap (drop ((m - 1) * 64)) parts ∙ drop-at (flat low) _ ((m - 1) * 64) low-size
 
   pub the-slot : take 64 (drop ((m - 1) * 64) slots) ≡ digest (top low) ++ digest (top high)
-  the-slot = ap (take 64) from-slot ∙ take-at (digest (top low) ++ digest (top high)) (flat high) 64 slot-size
+  the-slot = ap (take 64) from-slot ∙ take-at (digest (top low) ++ digest (top high)) (flat high) 64 (slot-wide low high)
 
   pub high-slots : take (length slots - m * 64) (drop (m * 64) slots) ≡ flat high
   high-slots =
       let a : m * 64 ≡ (m - 1) * 64 + 64 = omega (arith, h .least) in
-      rest-is slots (m * 64) ∙ ap (λ i. drop i slots) a ∙ sym (drop-drop 64 ((m - 1) * 64) slots) ∙ ap (drop 64) from-slot ∙ drop-at (digest (top low) ++ digest (top high)) (flat high) 64 slot-size
+      rest-is slots (m * 64) ∙ ap (λ i. drop i slots) a ∙ sym (drop-drop 64 ((m - 1) * 64) slots) ∙ ap (drop 64) from-slot ∙ drop-at (digest (top low) ++ digest (top high)) (flat high) 64 (slot-wide low high)
 
   -- the digest of either side is in the slot
   pub low-digest : take 32 (drop ((m - 1) * 64) slots) ≡ digest (top low)

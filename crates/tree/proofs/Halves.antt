@@ -1,19 +1,18 @@
 -- The two parts of leaves in order, as parts of their bytes: each is in order, and the tree over all is a fork of the trees over them.
 -- Assumes nothing.
-use mathlib.Core.Path.{_≡_, refl, sym, ap, ap₂, _∙_, subst}
-use mathlib.Core.List.{List, [], _∷_, _++_, append-nil, append-assoc}
-use Prim.Native.Nat.{ℕ, suc, _+_, _-_, _*_, _≤_, _<_}
+use mathlib.Core.Path.{_≡_, sym, ap, ap₂, _∙_, subst}
+use mathlib.Core.List.{[]}
+use Prim.Native.Nat.{ℕ, _+_, _-_, _*_, _≤_, _<_}
 use native.Mathlib.Omega.{arith}
-use lib.ListN.{length, take, drop, getD, length-append, length-drop, drop-of-length-le}
-use lib.Seq.{length-take-le, take-append-add, drop-drop, drop-at, take-take}
-use Rattle.paper.specs.Bytes.{Bytes, pasted}
+use lib.ListN.{length, take, drop, getD, length-drop}
+use lib.Seq.{length-take-le, take-take}
+use Rattle.paper.specs.Bytes.{Bytes}
 use Rattle.paper.specs.Bits.{bitsOf, lcp, firstDifference}
-use Rattle.paper.specs.Strings.{Node, inner, nothing}
-use Rattle.paper.specs.Tree.{key, digest, Tree, one, fork, top, build, root}
+use Rattle.paper.specs.Strings.{nothing}
+use Rattle.paper.specs.Tree.{key, fork, build, root}
 use Rattle.paper.specs.Level.{entryLeaf, leavesIn}
-use Rattle.paper.proofs.Tree.{below-one}
-use Rattle.words.proofs.Pasted.{rest-is, pasted-at}
-use Rattle.tree.specs.Stored.{flat, Sorted, Range, Cut, Forked, Below}
+use Rattle.words.proofs.Pasted.{rest-is}
+use Rattle.tree.specs.Stored.{Sorted, Range, Cut, Forked}
 use Rattle.tree.proofs.Leaves.{leaves-length, leaves-take, leaves-drop, leaf-at, leaves-long}
 use Rattle.tree.proofs.Rising.{rising-ordered, rising-take, rising-drop}
 use Rattle.tree.proofs.Step.{left-range, right-range, deeper, fork-tree, root-step}

@@ -11,10 +11,11 @@ use Rattle.paper.specs.Numbers.{wide}
 use Rattle.paper.specs.Bytes.{Bytes, Bytewise, number}
 use Rattle.paper.specs.Bits.{bitsOf, pack}
 use Rattle.paper.specs.Strings.{Node, leaf, nothing, leafString}
-use Rattle.paper.specs.Tree.{key, digest}
+use Rattle.paper.specs.Tree.{key, digest, empty, one, build}
 use Rattle.paper.specs.Level.{entryLeaf, leavesIn}
 use Rattle.fips.specs.Sha256.{sha256}
 use Rattle.paper.proofs.Lists.{drop-take, all-take}
+use Rattle.paper.proofs.Tree.{below-none, below-one}
 use Rattle.paper.proofs.Bytes.{bitsOf-length, pack-bitsOf}
 
 pub leaves-length : (n : ℕ) (s : Bytes) → length (leavesIn n s) ≡ n
@@ -63,6 +64,22 @@ leaves-long (suc n) s h = (
   omega (arith, bitsOf-length (take 32 s), length-take-le 32 s (omega arith)),
   leaves-long n (drop 68 s) (omega (arith, length-drop 68 s)),
 )
+
+pub long-short : (S : List Node) → All (λ x. length (key x) ≡ 256) S → All (λ x. length (key x) ≤ 256) S
+long-short [] h = tt
+long-short (x ∷ S) h = (omega (arith, h .0), long-short S (h .1))
+
+pub leaves-some : (n : ℕ) (s : Bytes) → 1 ≤ n → ¬ (leavesIn n s ≡ [])
+leaves-some n s h e = omega (arith, leaves-length n s, ap length e)
+
+-- the tree over no leaf, and over one
+pub bare : (n : ℕ) (s : Bytes) → n ≡ 0 → build 256 (leavesIn n s) ≡ empty
+unfolding leavesIn
+bare n s e = ap (λ i. build 256 (leavesIn i s)) e ∙ below-none
+
+pub single : (n : ℕ) (s : Bytes) → n ≡ 1 → build 256 (leavesIn n s) ≡ one (entryLeaf s)
+unfolding leavesIn
+single n s e = ap (λ i. build 256 (leavesIn i s)) e ∙ below-one (entryLeaf s)
 
 -- the string of a leaf
 pub leaf-string : (s : Bytes) → 68 ≤ length s → Bytewise s → sha256 (leafString (take 32 s) (take 32 (drop 32 s)) (number (take 4 (drop 64 s)))) ≡ digest (entryLeaf s)

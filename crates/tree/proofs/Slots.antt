@@ -5,18 +5,17 @@ use mathlib.Core.List.{List, [], _∷_, _++_, append-nil, append-assoc}
 use Prim.Native.Nat.{ℕ, _+_, _-_, _*_, _≤_}
 use native.Mathlib.Omega.{arith}
 use lib.ListN.{length, take, drop, length-append, length-drop, drop-of-length-le}
-use lib.Seq.{length-take-le, take-append-add, drop-append-add, drop-drop, drop-at, take-at, take-take}
+use lib.Seq.{length-take-le, take-append-add, drop-append-add, drop-drop, drop-at, take-at}
 use Rattle.fips.specs.Sha256.{sha256}
 use Rattle.paper.specs.Bytes.{Bytes, pasted}
 use Rattle.paper.specs.Strings.{Node, inner, nodeString, nothingString}
-use Rattle.paper.specs.Tree.{key, digest, Tree, empty, one, fork, top, build, rootDigest}
+use Rattle.paper.specs.Tree.{key, digest, Tree, fork, top, build, rootDigest}
 use Rattle.paper.specs.Level.{entryLeaf, leavesIn}
-use Rattle.paper.proofs.Tree.{below-none, below-one}
 use Rattle.paper.proofs.Fits.{digest-wide}
 use Rattle.words.proofs.Pasted.{rest-is, pasted-none, pasted-at}
-use Rattle.tree.specs.Stored.{flat, Sorted, Cut, Below, Side, SideLaid, Stored, Laid}
+use Rattle.tree.specs.Stored.{flat, Sorted, Cut, BelowLaid, Side, SideLaid, Stored, Laid}
 use Rattle.tree.specs.declared.Sides.{Sides}
-use Rattle.tree.proofs.Leaves.{leaves-length, leaves-long}
+use Rattle.tree.proofs.Leaves.{leaves-length, leaves-long, bare, single}
 use Rattle.tree.proofs.Step.{root-step}
 use Rattle.tree.proofs.Halves.{before, behind, Halves, before-leaves, behind-leaves}
 
@@ -72,18 +71,18 @@ module _ (o u : Bytes) (a g b : ℕ) (h : Over o u a g b) where
 
 -- ---- the tree below the root
 
-pub below-one-leaf : (n : ℕ) (s d slots : Bytes) → n ≡ 1 → d ≡ digest (entryLeaf s) → length slots ≡ (n - 1) * 64 → Below (leavesIn n s) d slots
-unfolding leavesIn flat
+pub below-one-leaf : (n : ℕ) (s d slots : Bytes) → n ≡ 1 → d ≡ digest (entryLeaf s) → length slots ≡ (n - 1) * 64 → BelowLaid (leavesIn n s) d slots
+unfolding flat
 below-one-leaf n s d slots e h l =
-    let t : build 256 (leavesIn n s) ≡ one (entryLeaf s) = ap (λ i. build 256 (leavesIn i s)) e ∙ below-one (entryLeaf s) in
+    let t = single n s e in
     record { node = h ∙ ap (λ x. digest (top x)) (sym t); inside = none slots (omega arith) ∙ ap flat (sym t) }
   where
     none : (l : Bytes) → length l ≡ 0 → l ≡ []
     none [] e = refl
     none (x ∷ l) e = absurd (omega arith)
 
-pub below-fork : (n from : ℕ) (s : Bytes) (k m : ℕ) (x y d u v slots : Bytes) → Halves n from s k m → Below (leavesIn m (before m s)) x u → Below (leavesIn (n - m) (behind m s)) y v
-    → d ≡ digest (inner (take k (key (entryLeaf s))) x y) → slots ≡ u ++ ((x ++ y) ++ v) → Below (leavesIn n s) d slots
+pub below-fork : (n from : ℕ) (s : Bytes) (k m : ℕ) (x y d u v slots : Bytes) → Halves n from s k m → BelowLaid (leavesIn m (before m s)) x u → BelowLaid (leavesIn (n - m) (behind m s)) y v
+    → d ≡ digest (inner (take k (key (entryLeaf s))) x y) → slots ≡ u ++ ((x ++ y) ++ v) → BelowLaid (leavesIn n s) d slots
 below-fork n from s k m x y d u v slots h l r e f =
     let p = take k (key (entryLeaf s)) in
     record {
@@ -92,8 +91,11 @@ below-fork n from s k m x y d u v slots h l r e f =
     }
 
 -- a slot holds two digests
-pub both-wide : {S T : List Node} {x y u v : Bytes} → Below S x u → Below T y v → length (x ++ y) ≡ 64
-both-wide {S} {T} {x} {y} a b = omega (arith, length-append x y, ap length (a .node), ap length (b .node), digest-wide (nodeString (top (build 256 S))) .size, digest-wide (nodeString (top (build 256 T))) .size)
+pub slot-wide : (l r : Tree) → length (digest (top l) ++ digest (top r)) ≡ 64
+slot-wide l r = omega (arith, length-append (digest (top l)) (digest (top r)), digest-wide (nodeString (top l)) .size, digest-wide (nodeString (top r)) .size)
+
+pub both-wide : {S T : List Node} {x y u v : Bytes} → BelowLaid S x u → BelowLaid T y v → length (x ++ y) ≡ 64
+both-wide {S} {T} a b = ap₂ (λ x y. length (x ++ y)) (a .node) (b .node) ∙ slot-wide (build 256 S) (build 256 T)
 
 -- ---- the root's sides
 
@@ -102,9 +104,9 @@ unfolding pasted
 front-pasted o u a e = let f : a ≡ 0 + length u = omega arith in ap (λ i. u ++ drop i o) f
 
 pub side-none : (n : ℕ) (s d o : Bytes) → n ≡ 0 → d ≡ sha256 nothingString → length o ≡ n * 64 → SideLaid (leavesIn n s) d o o
-unfolding leavesIn flat
+unfolding flat
 side-none n s d o e h l =
-    let t : build 256 (leavesIn n s) ≡ empty = ap (λ i. build 256 (leavesIn i s)) e ∙ below-none in
+    let t = bare n s e in
     let z : (length (leavesIn n s) - 1) * 64 ≡ 0 = omega (arith, leaves-length n s) in
     record {
       stored = record {
@@ -115,7 +117,7 @@ side-none n s d o e h l =
       whole = sym (ap (λ x. pasted o 0 (flat x)) t ∙ pasted-none o 0);
     }
 
-pub side-some : (n : ℕ) (s d o u : Bytes) → 1 ≤ n → length o ≡ n * 64 → length u ≡ (n - 1) * 64 → Below (leavesIn n s) d u → SideLaid (leavesIn n s) d o (u ++ drop ((n - 1) * 64) o)
+pub side-some : (n : ℕ) (s d o u : Bytes) → 1 ≤ n → length o ≡ n * 64 → length u ≡ (n - 1) * 64 → BelowLaid (leavesIn n s) d u → SideLaid (leavesIn n s) d o (u ++ drop ((n - 1) * 64) o)
 side-some n s d o u h l k b =
     let e : (length (leavesIn n s) - 1) * 64 ≡ (n - 1) * 64 = ap (λ i. (i - 1) * 64) (leaves-length n s) in
     record {

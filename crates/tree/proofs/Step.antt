@@ -22,6 +22,7 @@ use Rattle.bit_order.proofs.Order.{Ordered, ends-share}
 use Rattle.bit_order.proofs.Cut.{pfx-is-take, pfx-goes-on}
 use Rattle.bit_order.proofs.Sides.{Parts, ordered-free, root-parts, build-parts}
 use Rattle.tree.specs.Stored.{Range, Cut, Forked}
+use Rattle.tree.proofs.Leaves.{long-short}
 use Rattle.tree.proofs.Rising.{ordered-at, bit-behind, bit-within}
 
 -- neither part is empty: the tree over both is a fork
@@ -159,7 +160,7 @@ module _ (S : List Node) (k m : ℕ) (o : Ordered key S) (long : All (λ x. leng
             let (b, w) = first-bit (r .shared) (omega (arith, r .size)) in
             record {
               free = ordered-free S o;
-              short = in-all _ S (λ x i. omega (arith, all-in (λ x. length (key x) ≡ 256) S long x i));
+              short = long-short S long;
               bit = b;
               shares = in-all _ S (λ x i. pfx-trans w (all-in _ S (r .shares) x i));
             }

@@ -45,7 +45,7 @@ pub record Forked (S : List Node) (k m : ℕ) : Type 0 where
   pub cut : Cut k S m
 
 -- the tree below the root over these leaves: its digest, and its slots, one fewer than leaves
-pub record Below (S : List Node) (d slots : Bytes) : Type 0 where
+pub record BelowLaid (S : List Node) (d slots : Bytes) : Type 0 where
   pub node : d ≡ digest (top (build 256 S))
   pub inside : slots ≡ flat (build 256 S)
 

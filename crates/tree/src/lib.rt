@@ -20,7 +20,7 @@ ghost use Rattle.paper.specs.Bytes.{pasted};
 ghost use Rattle.paper.specs.Strings as S;
 ghost use Rattle.paper.specs.Tree as T;
 ghost use Rattle.paper.specs.Level.{entryLeaf, leavesIn};
-ghost use Rattle.tree.specs.Stored.{Sorted, Range, Cut, Forked, Below, SideLaid, Laid};
+ghost use Rattle.tree.specs.Stored.{Sorted, Range, Cut, Forked, BelowLaid, SideLaid, Laid};
 
 // The root's two sides over n leaves: the first `split` leaves are on the left, the others on the right, and each side has a digest.
 pub struct Sides {
@@ -107,7 +107,7 @@ fn put_both(slots: &mut [u8], at: usize, left: &[u8; 32], right: &[u8; 32])
 // more bits than the whole did: at most 256 calls stand within one another.
 fn below(s: &[u8], n: usize, from: usize, slots: &mut [u8]) -> [u8; 32]
     requires { ⌜ (1 ≤ n) × (1 ≤ from) × Sorted n (now s) × Range from (leavesIn n (now s)) × (length (now slots) ≡ (n - 1) * 64) ⌝ }
-    ensures { λ r. ⌜ Below (leavesIn n (now (s .entry))) r (now (slots .exit)) ⌝ }
+    ensures { λ r. ⌜ BelowLaid (leavesIn n (now (s .entry))) r (now (slots .exit)) ⌝ }
 {
     if n == 1 {
         return leaf_digest(s);

@@ -1,22 +1,23 @@
 -- The bytes of steps, of ends and of a path, and how many they are. Assumes nothing.
 use mathlib.Core.Path.{_≡_, refl, sym, ap, ap₂, _∙_}
-use mathlib.Core.Bool.{Bool, true, false, cond}
-use mathlib.Core.List.{List, [], _∷_, _++_, append-nil, append-assoc}
-use Prim.Native.Nat.{ℕ, zero, suc, _+_, _-_, _*_, _≤_}
+use mathlib.Core.Bool.{true, false}
+use mathlib.Core.List.{List, [], _∷_, _++_}
+use Prim.Native.Nat.{ℕ, zero, suc, _+_, _*_, _≤_}
 use native.Mathlib.Omega.{arith}
-use lib.ListN.{length, take, drop, length-append, length-drop}
+use lib.ListN.{length, take, drop, length-append}
 use lib.Seq.{length-take-le, take-add, drop-drop}
 use Rattle.paper.specs.Lists.{All}
 use Rattle.paper.specs.Numbers.{wide}
 use Rattle.paper.specs.Bytes.{Bytes, Bytewise, be, number}
 use Rattle.paper.specs.Bits.{Bits, bitsOf, pack}
-use Rattle.paper.specs.Tree.{Tree}
-use Rattle.paper.specs.Path.{Step, End, this, other, off, none, Path, waySteps, wayEnd, way}
+use Rattle.paper.specs.Tree.{key, Tree}
+use Rattle.paper.specs.Level.{entryLeaf}
+use Rattle.paper.specs.Path.{Step, End, this, other, off, none, sameBits, endAt, waySteps, wayEnd, way}
 use Rattle.paper.specs.Layout.{block, fixed, within, seq, led, times, timesBytes, such, view}
 use Rattle.paper.specs.Fields.{endKind, endOf, endField, stepField, pathField}
 use Rattle.paper.proofs.Lists.{all-take, all-drop}
 use Rattle.paper.proofs.Bytes.{be-length, be-number, pack-length, pack-bitsOf}
-use Rattle.paper.proofs.Fits.{step-fits, PathFits, path-fits}
+use Rattle.paper.proofs.Fits.{step-fits, path-fits}
 use Rattle.words.proofs.Pasted.{length-part}
 use Rattle.tree_path.specs.Written.{endSize, endBytes, wayBytes}
 
@@ -40,11 +41,11 @@ path-bytes L t = ap (λ x. be 2 (length (waySteps L t)) ++ (timesBytes (stepFiel
 
 -- ---- the ends
 
-pub this-bytes : (c : Bytes) (e : ℕ) → endBytes (this c e) ≡ 0 ∷ (c ++ be 4 e)
+this-bytes : (c : Bytes) (e : ℕ) → endBytes (this c e) ≡ 0 ∷ (c ++ be 4 e)
 unfolding endBytes led within endOf view seq block be
 this-bytes c e = refl
 
-pub other-bytes : (m : Bits) (c : Bytes) (e : ℕ) → endBytes (other m c e) ≡ 1 ∷ (pack wide m ++ (c ++ be 4 e))
+other-bytes : (m : Bits) (c : Bytes) (e : ℕ) → endBytes (other m c e) ≡ 1 ∷ (pack wide m ++ (c ++ be 4 e))
 unfolding endBytes led within endOf view seq block be
 other-bytes m c e = refl
 
@@ -66,13 +67,21 @@ module _ (s : Bytes) (h : 68 ≤ length s) (w : Bytewise s) where
       ap (λ x. take 32 (drop 32 s) ++ x) (epoch-bytes ∙ ap (take 4) (sym (drop-drop 32 32 s)))
       ∙ sym (take-add 32 4 (drop 32 s))
 
-  pub this-leaf : endBytes (this (take 32 (drop 32 s)) (number (take 4 (drop 64 s)))) ≡ 0 ∷ take 36 (drop 32 s)
+  this-leaf : endBytes (this (take 32 (drop 32 s)) (number (take 4 (drop 64 s)))) ≡ 0 ∷ take 36 (drop 32 s)
   this-leaf = this-bytes _ _ ∙ ap (λ x. 0 ∷ x) fields
 
-  pub other-leaf : endBytes (other (bitsOf (take 32 s)) (take 32 (drop 32 s)) (number (take 4 (drop 64 s)))) ≡ 1 ∷ take 68 s
+  other-leaf : endBytes (other (bitsOf (take 32 s)) (take 32 (drop 32 s)) (number (take 4 (drop 64 s)))) ≡ 1 ∷ take 68 s
   other-leaf =
       let e : pack wide (bitsOf (take 32 s)) ≡ take 32 s = ap (λ n. pack n (bitsOf (take 32 s))) (sym (length-take-le 32 s (omega arith))) ∙ pack-bitsOf (take 32 s) (all-take _ 32 s w) in
       other-bytes _ _ _ ∙ ap₂ (λ x y. 1 ∷ (x ++ y)) e fields ∙ ap (λ x. 1 ∷ x) (sym (take-add 32 36 s))
+
+  pub leaf-this : (L : Bits) → sameBits (key (entryLeaf s)) L ≡ true → endBytes (endAt L (entryLeaf s)) ≡ 0 ∷ take 36 (drop 32 s)
+  unfolding endAt
+  leaf-this L e = rw e this-leaf
+
+  pub leaf-other : (L : Bits) → sameBits (key (entryLeaf s)) L ≡ false → endBytes (endAt L (entryLeaf s)) ≡ 1 ∷ take 68 s
+  unfolding endAt
+  leaf-other L e = rw e other-leaf
 
 -- ---- sizes
 
@@ -84,20 +93,20 @@ unfolding timesBytes
 steps-size [] f = refl
 steps-size (s ∷ l) f = omega (arith, length-append (stepField .bytes s) (timesBytes (stepField .bytes) l), step-size s (f .0), steps-size l (f .1))
 
+pub off-long : (p : Bits) (l r : Bytes) → length (endBytes (off p l r)) ≡ 35 + length (l ++ r)
+off-long p l r = ap length (off-bytes p l r) ∙ omega (
+  arith,
+  length-append (be 2 (length p) ++ pack wide p) (l ++ r),
+  length-append (be 2 (length p)) (pack wide p),
+  be-length 2 (length p),
+  pack-length wide p,
+)
+
 end-size : (m : ℕ) (e : End) → endField m .Fits e → length (endBytes e) ≡ 1 + endSize (endKind e)
 unfolding led within endOf view seq such block
 end-size m (this c e) f = ap length (this-bytes c e) ∙ omega (arith, length-append c (be 4 e), be-length 4 e, f .1 .0 .0 .0)
 end-size m (other l c e) f = ap length (other-bytes l c e) ∙ omega (arith, length-append (pack wide l) (c ++ be 4 e), length-append c (be 4 e), be-length 4 e, pack-length wide l, f .1 .0 .1 .0 .0)
-end-size m (off p l r) f = ap length (off-bytes p l r) ∙ omega (
-  arith,
-  length-append (be 2 (length p) ++ pack wide p) (l ++ r),
-  length-append (be 2 (length p)) (pack wide p),
-  length-append l r,
-  be-length 2 (length p),
-  pack-length wide p,
-  f .1 .0 .1 .0 .0,
-  f .1 .0 .1 .1 .0,
-)
+end-size m (off p l r) f = omega (arith, off-long p l r, length-append l r, f .1 .0 .1 .0 .0, f .1 .0 .1 .1 .0)
 end-size m none f = ap length none-bytes
 
 pub no-size : (k : ℕ) → 3 ≤ k → 0 ≡ endSize k

@@ -3,3 +3,5 @@ pub mod Labels
 pub mod Ways
 pub mod Ends
 pub mod There
+pub mod Writing
+pub mod Root

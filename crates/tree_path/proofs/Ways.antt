@@ -1,41 +1,30 @@
 -- A label's way at a leaf, at a fork and at the root, and that it has few steps. Assumes nothing.
-use mathlib.Core.Path.{_≡_, refl, sym, ap, ap₂, _∙_, subst}
+use mathlib.Core.Path.{_≡_, refl, sym, ap, ap₂, _∙_}
 use mathlib.Core.Bool.{Bool, true, false, cond}
-use mathlib.Core.List.{List, [], _∷_, _++_, append-assoc}
-use Prim.Native.Nat.{ℕ, zero, suc, _+_, _*_, _-_, _≤_, _<_}
+use mathlib.Core.List.{[], _∷_, _++_, append-assoc}
+use Prim.Native.Nat.{ℕ, zero, suc, _+_, _≤_}
 use native.Mathlib.Omega.{arith}
 use native.Mathlib.Numerals.{add-one}
-use lib.ListN.{length, take, drop, getD}
+use lib.ListN.{length, take, getD}
 use lib.Seq.{length-take-le}
-use Rattle.paper.specs.Lists.{All}
 use Rattle.paper.specs.Bytes.{Bytes}
-use Rattle.paper.specs.Bits.{Bits, Pfx, starts, bitsOf}
+use Rattle.paper.specs.Bits.{Bits, starts, bitsOf}
 use Rattle.paper.specs.Strings.{Node}
-use Rattle.paper.specs.Tree.{key, digest, Tree, empty, one, fork, top, build, root}
-use Rattle.paper.specs.Path.{End, off, none, sameBits, endAt, waySteps, wayEnd}
+use Rattle.paper.specs.Tree.{key, digest, Tree, empty, one, fork, top, build}
+use Rattle.paper.specs.Path.{off, none, sameBits, endAt, waySteps, wayEnd}
 use Rattle.paper.specs.Layout.{timesBytes}
 use Rattle.paper.specs.Fields.{endKind, stepField}
 use Rattle.paper.specs.Level.{entryLeaf, leavesIn}
-use Rattle.paper.proofs.Lists.{all-in, in-all}
 use Rattle.paper.proofs.Bytes.{bitsOf-length}
-use Rattle.paper.proofs.Tree.{below-none, below-one}
 use Rattle.paper.proofs.Way.{build-grown, grown-length, way-fork, way-down, down-count}
 use Rattle.bit_order.proofs.Sides.{ordered-free}
 use Rattle.tree.specs.Stored.{Sorted, Range}
-use Rattle.tree.proofs.Leaves.{leaves-length, leaves-long}
+use Rattle.tree.proofs.Leaves.{leaves-long, long-short, leaves-some, bare, single}
 use Rattle.tree.proofs.Rising.{rising-ordered}
 use Rattle.tree_path.specs.declared.walk.Way.{Way}
 use Rattle.tree_path.specs.Written.{wayOf, endBytes, wayBytes}
 
 -- ---- no leaf, and one
-
-pub bare : (n : ℕ) (s : Bytes) → n ≡ 0 → build 256 (leavesIn n s) ≡ empty
-unfolding leavesIn
-bare n s e = ap (λ i. build 256 (leavesIn i s)) e ∙ below-none
-
-pub single : (n : ℕ) (s : Bytes) → n ≡ 1 → build 256 (leavesIn n s) ≡ one (entryLeaf s)
-unfolding leavesIn
-single n s e = ap (λ i. build 256 (leavesIn i s)) e ∙ below-one (entryLeaf s)
 
 pub none-way : (L : Bits) → wayOf L empty ≡ record { steps = 0; kind = 3 }
 unfolding waySteps wayEnd
@@ -107,7 +96,6 @@ unfolding waySteps
 steps-few zero from s L w r l size = rw (bare 0 s refl) (omega arith)
 steps-few (suc n) from s L w r l size =
     let S = leavesIn (suc n) s in
-    let ne : ¬ (S ≡ []) = λ e. omega (arith, leaves-length (suc n) s, ap length e) in
-    let short = in-all (λ y. length (key y) ≤ 256) S (λ y m. omega (arith, all-in (λ y. length (key y) ≡ 256) S (leaves-long (suc n) s (omega (arith, w .size))) y m)) in
-    let g = build-grown 256 256 (r .shared) S (ordered-free S (rising-ordered S (w .rises))) short (omega arith) (r .shares) (omega (arith, r .size)) ne in
+    let short = long-short S (leaves-long (suc n) s (omega (arith, w .size))) in
+    let g = build-grown 256 256 (r .shared) S (ordered-free S (rising-ordered S (w .rises))) short (omega arith) (r .shares) (omega (arith, r .size)) (leaves-some (suc n) s (omega arith)) in
     omega (arith, r .size, down-count (grown-length (r .shared) (build 256 S) g) (way-down L size (r .shared) (build 256 S) g))

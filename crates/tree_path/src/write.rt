@@ -1,9 +1,9 @@
 // Writing a label's path into a lent output, from its count on.
-use bits::label_bit;
-use bits::prefix_of;
 use crate::walk::has_prefix;
 use crate::walk::is_label;
 use crate::walk::way_of;
+use bits::label_bit;
+use bits::prefix_of;
 use tree::Sides;
 use tree::fork_of;
 use tree::label_of;
@@ -11,6 +11,7 @@ use words::digest_at;
 use words::put;
 use words::write16;
 ghost use mathlib.Core.Path.{_≡_};
+ghost use mathlib.Core.List.{_∷_};
 ghost use Prim.Native.Nat.{_+_, _*_, _-_, _≤_};
 ghost use lib.ListN.{length, take, drop};
 ghost use Rattle.paper.specs.Bytes.{pasted};
@@ -19,7 +20,7 @@ ghost use Rattle.paper.specs.Tree.{key, build, root};
 ghost use Rattle.paper.specs.Path as P;
 ghost use Rattle.paper.specs.Fields.{stepField, pathField};
 ghost use Rattle.paper.specs.Level.{entryLeaf, leavesIn};
-ghost use Rattle.tree.specs.Stored.{flat, Sorted, Range, Side, Stored};
+ghost use Rattle.tree.specs.Stored.{flat, Sorted, Range, Stored};
 ghost use Rattle.tree_path.specs.Written.{endBytes, wayBytes, Wrote};
 
 // "prefix length (2) and sibling digest (32)"
@@ -31,19 +32,25 @@ fn write_step(out: &mut [u8], at: usize, k: usize, sibling: &[u8; 32])
     put(out, at + 2, sibling);
 }
 
+// "end kind (1)", and the fields of the end.
+fn write_end(out: &mut [u8], at: usize, kind: u8, fields: &[u8]) -> usize
+    requires { ⌜ at + 1 + length (now fields) ≤ length (now out) ⌝ }
+    ensures { λ r. ⌜ Wrote (now (out .entry)) at (kind ∷ now (fields .entry)) (now (out .exit)) r ⌝ }
+{
+    out[at] = kind;
+    put(out, at + 1, fields);
+    at + 1 + fields.len()
+}
+
 // "0, this leaf: commitment, epoch. 1, another leaf: label, commitment, epoch.": the bytes are those of the leaf.
 fn write_leaf(s: &[u8], label: &[u8], out: &mut [u8], at: usize) -> usize
     requires { ⌜ (68 ≤ length (now s)) × (length (now label) ≡ 32) × (at + length (endBytes (P.endAt (bitsOf (now label)) (entryLeaf (now s)))) ≤ length (now out)) ⌝ }
     ensures { λ r. ⌜ Wrote (now (out .entry)) at (endBytes (P.endAt (bitsOf (now (label .entry))) (entryLeaf (now (s .entry))))) (now (out .exit)) r ⌝ }
 {
     if is_label(s, label) {
-        out[at] = 0;
-        put(out, at + 1, &s[32..68]);
-        return at + 37;
+        return write_end(out, at, 0, &s[32..68]);
     }
-    out[at] = 1;
-    put(out, at + 1, &s[..68]);
-    at + 69
+    write_end(out, at, 1, &s[..68])
 }
 
 // "2, another inner node: its 98 bytes after 0x01": the digests of its children are the slot.
@@ -87,7 +94,15 @@ fn write_below(
     if label_bit(label, k) {
         let sibling = digest_at(slots, slot);
         write_step(out, at, k, &sibling);
-        return write_below(&s[middle..], n - m, k + 1, &slots[behind..], label, out, at + 34);
+        return write_below(
+            &s[middle..],
+            n - m,
+            k + 1,
+            &slots[behind..],
+            label,
+            out,
+            at + 34,
+        );
     }
     let sibling = digest_at(slots, slot + 32);
     write_step(out, at, k, &sibling);
@@ -95,14 +110,7 @@ fn write_below(
 }
 
 // The same on a side of the root, where "3, nothing" may be the end.
-fn write_side(
-    s: &[u8],
-    n: usize,
-    slots: &[u8],
-    label: &[u8],
-    out: &mut [u8],
-    at: usize,
-) -> usize
+fn write_side(s: &[u8], n: usize, slots: &[u8], label: &[u8], out: &mut [u8], at: usize) -> usize
     requires { ⌜ Sorted n (now s) × Range 1 (leavesIn n (now s)) × (length (now slots) ≡ n * 64) × (take ((n - 1) * 64) (now slots) ≡ flat (build 256 (leavesIn n (now s)))) × (length (now label) ≡ 32) × (at + length (wayBytes (bitsOf (now label)) (build 256 (leavesIn n (now s)))) ≤ length (now out)) ⌝ }
     ensures { λ r. ⌜ Wrote (now (out .entry)) at (wayBytes (bitsOf (now (label .entry))) (build 256 (leavesIn n (now (s .entry))))) (now (out .exit)) r ⌝ }
 {

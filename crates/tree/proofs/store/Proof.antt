@@ -1,10 +1,9 @@
 -- `tree::store`: the leaves part at the first bit, and each side has its own slots.
 use borrow.Author.Needs.{needs}
 use native.Mathlib.Omega.{arith}
-use mathlib.Core.Path.{_≡_, sym, ap, _∙_, subst}
-use mathlib.Core.List.{_++_}
-use Prim.Native.Nat.{ℕ, _-_, _*_, _≤_}
-use lib.ListN.{length, take, drop, length-drop}
+use mathlib.Core.Path.{sym, ap, _∙_, subst}
+use Prim.Native.Nat.{_-_, _*_, _≤_}
+use lib.ListN.{length, length-drop}
 use lib.Seq.{length-take-le}
 use Rattle.paper.specs.Level.{leavesIn}
 use Rattle.tree.specs.Stored.{SideLaid}

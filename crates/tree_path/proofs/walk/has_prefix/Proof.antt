@@ -1,6 +1,6 @@
 -- `tree_path::has_prefix`: two labels share as many bits as they agree on.
 use borrow.Author.Needs.{needs}
-use mathlib.Core.Path.{ap, ap₂, _∙_}
+use mathlib.Core.Path.{ap, _∙_}
 use lib.Dec.{leb}
 use lib.ListN.{take}
 use Rattle.paper.specs.Bits.{firstDifference}

@@ -1,7 +1,7 @@
 -- `tree_path::path_length`: a step has 34 bytes, and an end as many as its kind says.
 use borrow.Author.Needs.{needs}
 use native.Mathlib.Omega.{arith}
-use mathlib.Core.Path.{_≡_, sym, ap, _∙_}
+use mathlib.Core.Path.{sym, ap, _∙_}
 use Prim.Native.Nat.{_+_, _*_, _≤_}
 use Rattle.paper.specs.Bits.{bitsOf}
 use Rattle.paper.specs.Tree.{root}

@@ -3,8 +3,9 @@ use borrow.Author.Needs.{needs}
 use native.Mathlib.Omega.{arith}
 use mathlib.Core.Path.{sym, ap, _∙_}
 use Rattle.paper.specs.Bits.{bitsOf}
+use Rattle.tree.proofs.Leaves.{bare}
 use Rattle.tree_path.specs.Written.{wayOf}
-use Rattle.tree_path.proofs.Ways.{bare, none-way}
+use Rattle.tree_path.proofs.Ways.{none-way}
 use Rattle.tree_path.proofs.walk.way_side.Statement.{statement}
 use Rattle.tree_path.proofs.walk.way_side.Tie as tie
 

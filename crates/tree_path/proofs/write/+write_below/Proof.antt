@@ -1,4 +1,30 @@
-use Prim.Native.Nat.{ℕ, _<_}
+-- `tree_path::write_below`: at a leaf and at a fork whose prefix the label has not, the end; otherwise a step with the digest of the other
+-- side, and the way on the label's side behind it. What is left of 256 bits falls.
+use borrow.Author.Needs.{needs}
+use native.Mathlib.Omega.{arith}
+use mathlib.Core.Path.{_≡_, refl, sym, ap, ap₂, _∙_, subst}
+use mathlib.Core.Bool.{true, false}
+use mathlib.Core.List.{_++_}
+use Prim.Native.Nat.{ℕ, _+_, _-_, _*_, _<_}
+use lib.ListN.{length, take, drop, length-append}
+use lib.Seq.{length-take-le, take-at, drop-at}
+use borrow.Author.Tests.{not-true, not-false}
+use Rattle.paper.specs.Bytes.{pasted}
+use Rattle.paper.specs.Bits.{Bits, bitsOf}
+use Rattle.paper.specs.Strings.{nodeString}
+use Rattle.paper.specs.Tree.{key, digest, Tree, top, build}
+use Rattle.paper.specs.Path.{off, endAt}
+use Rattle.paper.specs.Fields.{stepField}
+use Rattle.paper.specs.Level.{entryLeaf, leavesIn}
+use Rattle.paper.proofs.Fits.{digest-wide}
+use Rattle.tree.proofs.Leaves.{single}
+use Rattle.tree.proofs.Slots.{slot-wide}
+use Rattle.tree.proofs.Halves.{before, behind, Halves, halves, before-sorted, behind-sorted}
+use Rattle.tree.proofs.Flat.{slots-size, low-slots, the-slot, high-slots, low-digest, high-digest}
+use Rattle.tree_path.specs.Written.{endBytes, wayBytes, Wrote}
+use Rattle.tree_path.proofs.Ways.{one-bytes, off-bytes, turn-bytes, prefix-size}
+use Rattle.tree_path.proofs.Ends.{off-long}
+use Rattle.tree_path.proofs.Writing.{way-long, way-wrote}
 use borrow.Fn.Kinds.{In}
 use borrow.Fn.PlainCycle.{Measures, is, falls, and}
 use Rattle.tree_path.proofs.write.write_below.Reads as write-below
@@ -15,916 +41,342 @@ use Rattle.tree_path.proofs.write.+write_below.{statement}
 use Rattle.tree_path.proofs.write.+write_below.Tie.{close}
 
 abbrev μ-write-below : Measures 4 write-below-kinds.ps ℕ
-μ-write-below κs a = ?
+μ-write-below κs a = 256 - a .1 .1 .0
 
 abbrev write-below-at : ℕ → In 4 write-below-kinds.ps
-write-below-at t =
-    and 4 write-below-kinds.ps (is 4 write-below-kinds.ps μ-write-below t) write-below.Pre
+write-below-at t = and 4 write-below-kinds.ps (is 4 write-below-kinds.ps μ-write-below t) write-below.Pre
 
 abbrev write-below-below : ℕ → In 4 write-below-kinds.ps
-write-below-below t =
-    and 4 write-below-kinds.ps (falls 4 write-below-kinds.ps _<_ μ-write-below t) write-below.Pre
+write-below-below t = and 4 write-below-kinds.ps (falls 4 write-below-kinds.ps _<_ μ-write-below t) write-below.Pre
 
--- src/write.rt:76:9
-write-below-write-leaf-requires : (t : ℕ) → write-below-lts.Need-write-leaf-requires (
-  write-leaf-reads.Asked,
-  write-leaf-reads.Learnt,
-  fork-of-reads.Asked,
-  fork-of-reads.Learnt,
-  has-prefix-reads.Asked,
-  has-prefix-reads.Learnt,
-  write-off-reads.Asked,
-  write-off-reads.Learnt,
-  label-bit-reads.Asked,
-  label-bit-reads.Learnt,
-  digest-at-reads.Asked,
-  digest-at-reads.Learnt,
-  write-step-reads.Asked,
-  write-step-reads.Learnt,
-  write-below-below t,
-  write-below.Post,
-) (write-below-at t) write-below.Post
-write-below-write-leaf-requires t c κs = ?
+module _ (t : ℕ) where
+  abbrev claims : write-below-lts.Claims
+  claims = (
+    write-leaf-reads.Asked,
+    write-leaf-reads.Learnt,
+    fork-of-reads.Asked,
+    fork-of-reads.Learnt,
+    has-prefix-reads.Asked,
+    has-prefix-reads.Learnt,
+    write-off-reads.Asked,
+    write-off-reads.Learnt,
+    label-bit-reads.Asked,
+    label-bit-reads.Learnt,
+    digest-at-reads.Asked,
+    digest-at-reads.Learnt,
+    write-step-reads.Asked,
+    write-step-reads.Learnt,
+    write-below-below t,
+    write-below.Post,
+  )
 
--- src/write.rt:76:9
-write-below-same-length : (t : ℕ) → write-below-lts.Need-same-length (
-  write-leaf-reads.Asked,
-  write-leaf-reads.Learnt,
-  fork-of-reads.Asked,
-  fork-of-reads.Learnt,
-  has-prefix-reads.Asked,
-  has-prefix-reads.Learnt,
-  write-off-reads.Asked,
-  write-off-reads.Learnt,
-  label-bit-reads.Asked,
-  label-bit-reads.Learnt,
-  digest-at-reads.Asked,
-  digest-at-reads.Learnt,
-  write-step-reads.Asked,
-  write-step-reads.Learnt,
-  write-below-below t,
-  write-below.Post,
-) (write-below-at t) write-below.Post
-write-below-same-length t c = ?
+  abbrev Pre : In 4 write-below-kinds.ps
+  Pre = write-below-at t
 
--- src/write.rt:76:9
-write-below-returns : (t : ℕ) → write-below-lts.Need-returns (
-  write-leaf-reads.Asked,
-  write-leaf-reads.Learnt,
-  fork-of-reads.Asked,
-  fork-of-reads.Learnt,
-  has-prefix-reads.Asked,
-  has-prefix-reads.Learnt,
-  write-off-reads.Asked,
-  write-off-reads.Learnt,
-  label-bit-reads.Asked,
-  label-bit-reads.Learnt,
-  digest-at-reads.Asked,
-  digest-at-reads.Learnt,
-  write-step-reads.Asked,
-  write-step-reads.Learnt,
-  write-below-below t,
-  write-below.Post,
-) (write-below-at t) write-below.Post
-write-below-returns t c = ?
+  write-leaf-requires : write-below-lts.Need-write-leaf-requires claims Pre write-below.Post
+  write-leaf-requires c κs =
+      let start = c .before .before .before .before .before .before in
+      let a = start .args in
+      let e = c .before .if1 .taken in
+      let q : wayBytes (bitsOf (a .label .now)) (build 256 (leavesIn (a .n) (a .s .now))) ≡ endBytes (endAt (bitsOf (a .label .now)) (entryLeaf (a .s .now))) =
+      ap (wayBytes (bitsOf (a .label .now))) (single (a .n) (a .s .now) e) ∙ one-bytes (bitsOf (a .label .now)) (entryLeaf (a .s .now)) in
+      (omega (arith, start .pre .1 .2 .size), start .pre .1 .5, omega (arith, start .pre .1 .6, ap length q))
 
--- src/write.rt:78:9
-write-below-fork-of-requires : (t : ℕ) → write-below-lts.Need-fork-of-requires (
-  write-leaf-reads.Asked,
-  write-leaf-reads.Learnt,
-  fork-of-reads.Asked,
-  fork-of-reads.Learnt,
-  has-prefix-reads.Asked,
-  has-prefix-reads.Learnt,
-  write-off-reads.Asked,
-  write-off-reads.Learnt,
-  label-bit-reads.Asked,
-  label-bit-reads.Learnt,
-  digest-at-reads.Asked,
-  digest-at-reads.Learnt,
-  write-step-reads.Asked,
-  write-step-reads.Learnt,
-  write-below-below t,
-  write-below.Post,
-) (write-below-at t) write-below.Post
-write-below-fork-of-requires t c κs = ?
+  same-length : write-below-lts.Need-same-length claims Pre write-below.Post
+  same-length c = c .before .before .write-leaf .kept .1 .1 .0
 
--- src/write.rt:81:17
-write-below-sub-slot : (t : ℕ) → write-below-lts.Need-sub-slot (
-  write-leaf-reads.Asked,
-  write-leaf-reads.Learnt,
-  fork-of-reads.Asked,
-  fork-of-reads.Learnt,
-  has-prefix-reads.Asked,
-  has-prefix-reads.Learnt,
-  write-off-reads.Asked,
-  write-off-reads.Learnt,
-  label-bit-reads.Asked,
-  label-bit-reads.Learnt,
-  digest-at-reads.Asked,
-  digest-at-reads.Learnt,
-  write-step-reads.Asked,
-  write-step-reads.Learnt,
-  write-below-below t,
-  write-below.Post,
-) (write-below-at t) write-below.Post
-write-below-sub-slot t c = ?
+  returns : write-below-lts.Need-returns claims Pre write-below.Post
+  returns c =
+      let start = c .before .before .before .before .before .before .before .before .before in
+      let a = start .args in
+      let q : wayBytes (bitsOf (a .label .now)) (build 256 (leavesIn (a .n) (a .s .now))) ≡ endBytes (endAt (bitsOf (a .label .now)) (entryLeaf (a .s .now))) =
+      ap (wayBytes (bitsOf (a .label .now))) (single (a .n) (a .s .now) (c .before .before .before .before .if1 .taken)) ∙ one-bytes (bitsOf (a .label .now)) (entryLeaf (a .s .now)) in
+      subst (λ x. Wrote (a .out .now) (a .at) x (c .before .before .write-leaf .last .1 .1 .0) (c .before .before .write-leaf .result)) (sym q) (c .before .before .write-leaf .ensures)
 
--- src/write.rt:81:16
-write-below-mul-slot : (t : ℕ) → write-below-lts.Need-mul-slot (
-  write-leaf-reads.Asked,
-  write-leaf-reads.Learnt,
-  fork-of-reads.Asked,
-  fork-of-reads.Learnt,
-  has-prefix-reads.Asked,
-  has-prefix-reads.Learnt,
-  write-off-reads.Asked,
-  write-off-reads.Learnt,
-  label-bit-reads.Asked,
-  label-bit-reads.Learnt,
-  digest-at-reads.Asked,
-  digest-at-reads.Learnt,
-  write-step-reads.Asked,
-  write-step-reads.Learnt,
-  write-below-below t,
-  write-below.Post,
-) (write-below-at t) write-below.Post
-write-below-mul-slot t c = ?
+  fork-of-requires : write-below-lts.Need-fork-of-requires claims Pre write-below.Post
+  fork-of-requires c κs = let start = c .before .before .before .before .before in (omega (arith, start .pre .1 .0), start .pre .1 .2)
 
--- src/write.rt:82:18
-write-below-mul-behind : (t : ℕ) → write-below-lts.Need-mul-behind (
-  write-leaf-reads.Asked,
-  write-leaf-reads.Learnt,
-  fork-of-reads.Asked,
-  fork-of-reads.Learnt,
-  has-prefix-reads.Asked,
-  has-prefix-reads.Learnt,
-  write-off-reads.Asked,
-  write-off-reads.Learnt,
-  label-bit-reads.Asked,
-  label-bit-reads.Learnt,
-  digest-at-reads.Asked,
-  digest-at-reads.Learnt,
-  write-step-reads.Asked,
-  write-step-reads.Learnt,
-  write-below-below t,
-  write-below.Post,
-) (write-below-at t) write-below.Post
-write-below-mul-behind t c = ?
+  abbrev start : write-below-lts.After-fork-of claims Pre write-below.Post → write-below-lts.Start claims Pre write-below.Post
+  start c = c .before .before .before .before .before .before
 
--- src/write.rt:83:9
-write-below-has-prefix-requires : (t : ℕ) → write-below-lts.Need-has-prefix-requires (
-  write-leaf-reads.Asked,
-  write-leaf-reads.Learnt,
-  fork-of-reads.Asked,
-  fork-of-reads.Learnt,
-  has-prefix-reads.Asked,
-  has-prefix-reads.Learnt,
-  write-off-reads.Asked,
-  write-off-reads.Learnt,
-  label-bit-reads.Asked,
-  label-bit-reads.Learnt,
-  digest-at-reads.Asked,
-  digest-at-reads.Learnt,
-  write-step-reads.Asked,
-  write-step-reads.Learnt,
-  write-below-below t,
-  write-below.Post,
-) (write-below-at t) write-below.Post
-write-below-has-prefix-requires t c κs = ?
+  -- how many bits the leaves share, and how many of them go left
+  abbrev bits : write-below-lts.After-fork-of claims Pre write-below.Post → ℕ
+  bits c = c .fork-of .result .length
 
--- src/write.rt:84:32
-write-below-sub-write-off : (t : ℕ) → write-below-lts.Need-sub-write-off (
-  write-leaf-reads.Asked,
-  write-leaf-reads.Learnt,
-  fork-of-reads.Asked,
-  fork-of-reads.Learnt,
-  has-prefix-reads.Asked,
-  has-prefix-reads.Learnt,
-  write-off-reads.Asked,
-  write-off-reads.Learnt,
-  label-bit-reads.Asked,
-  label-bit-reads.Learnt,
-  digest-at-reads.Asked,
-  digest-at-reads.Learnt,
-  write-step-reads.Asked,
-  write-step-reads.Learnt,
-  write-below-below t,
-  write-below.Post,
-) (write-below-at t) write-below.Post
-write-below-sub-write-off t c = ?
+  abbrev left : write-below-lts.After-fork-of claims Pre write-below.Post → ℕ
+  left c = c .fork-of .result .left
 
--- src/write.rt:84:32
-write-below-part-write-off-start : (t : ℕ) → write-below-lts.Need-part-write-off-start (
-  write-leaf-reads.Asked,
-  write-leaf-reads.Learnt,
-  fork-of-reads.Asked,
-  fork-of-reads.Learnt,
-  has-prefix-reads.Asked,
-  has-prefix-reads.Learnt,
-  write-off-reads.Asked,
-  write-off-reads.Learnt,
-  label-bit-reads.Asked,
-  label-bit-reads.Learnt,
-  digest-at-reads.Asked,
-  digest-at-reads.Learnt,
-  write-step-reads.Asked,
-  write-step-reads.Learnt,
-  write-below-below t,
-  write-below.Post,
-) (write-below-at t) write-below.Post
-write-below-part-write-off-start t c = ?
+  cut : (c : write-below-lts.After-fork-of claims Pre write-below.Post) → Halves (start c .args .n) (start c .args .from) (start c .args .s .now) (bits c) (left c)
+  cut c =
+      let a = start c .args in
+      let h = start c .pre .1 in
+      halves (a .n) (a .from) (a .s .now) (bits c) (left c) (h .2) (h .1) (h .3) (c .fork-of .ensures)
 
--- src/write.rt:84:32
-write-below-part-write-off-end : (t : ℕ) → write-below-lts.Need-part-write-off-end (
-  write-leaf-reads.Asked,
-  write-leaf-reads.Learnt,
-  fork-of-reads.Asked,
-  fork-of-reads.Learnt,
-  has-prefix-reads.Asked,
-  has-prefix-reads.Learnt,
-  write-off-reads.Asked,
-  write-off-reads.Learnt,
-  label-bit-reads.Asked,
-  label-bit-reads.Learnt,
-  digest-at-reads.Asked,
-  digest-at-reads.Learnt,
-  write-step-reads.Asked,
-  write-step-reads.Learnt,
-  write-below-below t,
-  write-below.Post,
-) (write-below-at t) write-below.Post
-write-below-part-write-off-end t c = ?
+  slotted : (c : write-below-lts.After-fork-of claims Pre write-below.Post) → length (start c .args .slots .now) ≡ (start c .args .n - 1) * 64
+  slotted c =
+      let a = start c .args in
+      slots-size (a .n) (a .from) (a .s .now) (bits c) (left c) (start c .pre .1 .2) (cut c) (a .slots .now) (start c .pre .1 .4)
 
--- src/write.rt:84:9
-write-below-write-off-requires : (t : ℕ) → write-below-lts.Need-write-off-requires (
-  write-leaf-reads.Asked,
-  write-leaf-reads.Learnt,
-  fork-of-reads.Asked,
-  fork-of-reads.Learnt,
-  has-prefix-reads.Asked,
-  has-prefix-reads.Learnt,
-  write-off-reads.Asked,
-  write-off-reads.Learnt,
-  label-bit-reads.Asked,
-  label-bit-reads.Learnt,
-  digest-at-reads.Asked,
-  digest-at-reads.Learnt,
-  write-step-reads.Asked,
-  write-step-reads.Learnt,
-  write-below-below t,
-  write-below.Post,
-) (write-below-at t) write-below.Post
-write-below-write-off-requires t c κs = ?
+  abbrev prefix : write-below-lts.After-fork-of claims Pre write-below.Post → Bits
+  prefix c = take (bits c) (key (entryLeaf (start c .args .s .now)))
 
--- src/write.rt:84:9
-write-below-same-length-2 : (t : ℕ) → write-below-lts.Need-same-length-2 (
-  write-leaf-reads.Asked,
-  write-leaf-reads.Learnt,
-  fork-of-reads.Asked,
-  fork-of-reads.Learnt,
-  has-prefix-reads.Asked,
-  has-prefix-reads.Learnt,
-  write-off-reads.Asked,
-  write-off-reads.Learnt,
-  label-bit-reads.Asked,
-  label-bit-reads.Learnt,
-  digest-at-reads.Asked,
-  digest-at-reads.Learnt,
-  write-step-reads.Asked,
-  write-step-reads.Learnt,
-  write-below-below t,
-  write-below.Post,
-) (write-below-at t) write-below.Post
-write-below-same-length-2 t c = ?
+  size : (c : write-below-lts.After-fork-of claims Pre write-below.Post) → length (prefix c) ≡ bits c
+  size c = let h = cut c in prefix-size (start c .args .s .now) (bits c) (omega (arith, h .less, start c .pre .1 .2 .size)) (omega (arith, h .small))
 
--- src/write.rt:84:9
-write-below-returns-2 : (t : ℕ) → write-below-lts.Need-returns-2 (
-  write-leaf-reads.Asked,
-  write-leaf-reads.Learnt,
-  fork-of-reads.Asked,
-  fork-of-reads.Learnt,
-  has-prefix-reads.Asked,
-  has-prefix-reads.Learnt,
-  write-off-reads.Asked,
-  write-off-reads.Learnt,
-  label-bit-reads.Asked,
-  label-bit-reads.Learnt,
-  digest-at-reads.Asked,
-  digest-at-reads.Learnt,
-  write-step-reads.Asked,
-  write-step-reads.Learnt,
-  write-below-below t,
-  write-below.Post,
-) (write-below-at t) write-below.Post
-write-below-returns-2 t c = ?
+  -- the label, the tree, and its two sides
+  abbrev label : write-below-lts.After-fork-of claims Pre write-below.Post → Bits
+  label c = bitsOf (start c .args .label .now)
 
--- src/write.rt:86:18
-write-below-mul-middle : (t : ℕ) → write-below-lts.Need-mul-middle (
-  write-leaf-reads.Asked,
-  write-leaf-reads.Learnt,
-  fork-of-reads.Asked,
-  fork-of-reads.Learnt,
-  has-prefix-reads.Asked,
-  has-prefix-reads.Learnt,
-  write-off-reads.Asked,
-  write-off-reads.Learnt,
-  label-bit-reads.Asked,
-  label-bit-reads.Learnt,
-  digest-at-reads.Asked,
-  digest-at-reads.Learnt,
-  write-step-reads.Asked,
-  write-step-reads.Learnt,
-  write-below-below t,
-  write-below.Post,
-) (write-below-at t) write-below.Post
-write-below-mul-middle t c = ?
+  abbrev whole : write-below-lts.After-fork-of claims Pre write-below.Post → Tree
+  whole c = build 256 (leavesIn (start c .args .n) (start c .args .s .now))
 
--- src/write.rt:87:8
-write-below-label-bit-requires : (t : ℕ) → write-below-lts.Need-label-bit-requires (
-  write-leaf-reads.Asked,
-  write-leaf-reads.Learnt,
-  fork-of-reads.Asked,
-  fork-of-reads.Learnt,
-  has-prefix-reads.Asked,
-  has-prefix-reads.Learnt,
-  write-off-reads.Asked,
-  write-off-reads.Learnt,
-  label-bit-reads.Asked,
-  label-bit-reads.Learnt,
-  digest-at-reads.Asked,
-  digest-at-reads.Learnt,
-  write-step-reads.Asked,
-  write-step-reads.Learnt,
-  write-below-below t,
-  write-below.Post,
-) (write-below-at t) write-below.Post
-write-below-label-bit-requires t c κs = ?
+  abbrev low : write-below-lts.After-fork-of claims Pre write-below.Post → Tree
+  low c = build 256 (leavesIn (left c) (before (left c) (start c .args .s .now)))
 
--- src/write.rt:88:23
-write-below-digest-at-requires : (t : ℕ) → write-below-lts.Need-digest-at-requires (
-  write-leaf-reads.Asked,
-  write-leaf-reads.Learnt,
-  fork-of-reads.Asked,
-  fork-of-reads.Learnt,
-  has-prefix-reads.Asked,
-  has-prefix-reads.Learnt,
-  write-off-reads.Asked,
-  write-off-reads.Learnt,
-  label-bit-reads.Asked,
-  label-bit-reads.Learnt,
-  digest-at-reads.Asked,
-  digest-at-reads.Learnt,
-  write-step-reads.Asked,
-  write-step-reads.Learnt,
-  write-below-below t,
-  write-below.Post,
-) (write-below-at t) write-below.Post
-write-below-digest-at-requires t c κs = ?
+  abbrev high : write-below-lts.After-fork-of claims Pre write-below.Post → Tree
+  high c = build 256 (leavesIn (start c .args .n - left c) (behind (left c) (start c .args .s .now)))
 
--- src/write.rt:89:9
-write-below-write-step-requires : (t : ℕ) → write-below-lts.Need-write-step-requires (
-  write-leaf-reads.Asked,
-  write-leaf-reads.Learnt,
-  fork-of-reads.Asked,
-  fork-of-reads.Learnt,
-  has-prefix-reads.Asked,
-  has-prefix-reads.Learnt,
-  write-off-reads.Asked,
-  write-off-reads.Learnt,
-  label-bit-reads.Asked,
-  label-bit-reads.Learnt,
-  digest-at-reads.Asked,
-  digest-at-reads.Learnt,
-  write-step-reads.Asked,
-  write-step-reads.Learnt,
-  write-below-below t,
-  write-below.Post,
-) (write-below-at t) write-below.Post
-write-below-write-step-requires t c κs = ?
+  sub-slot : write-below-lts.Need-sub-slot claims Pre write-below.Post
+  sub-slot c = let h = cut c in omega (arith, h .small, h .least, h .less, start c .pre .1 .2 .size, slotted c)
 
--- src/write.rt:90:28
-write-below-sub-write-below : (t : ℕ) → write-below-lts.Need-sub-write-below (
-  write-leaf-reads.Asked,
-  write-leaf-reads.Learnt,
-  fork-of-reads.Asked,
-  fork-of-reads.Learnt,
-  has-prefix-reads.Asked,
-  has-prefix-reads.Learnt,
-  write-off-reads.Asked,
-  write-off-reads.Learnt,
-  label-bit-reads.Asked,
-  label-bit-reads.Learnt,
-  digest-at-reads.Asked,
-  digest-at-reads.Learnt,
-  write-step-reads.Asked,
-  write-step-reads.Learnt,
-  write-below-below t,
-  write-below.Post,
-) (write-below-at t) write-below.Post
-write-below-sub-write-below t c = ?
+  mul-slot : write-below-lts.Need-mul-slot claims Pre write-below.Post
+  mul-slot c = let h = cut c in omega (arith, h .small, h .least, h .less, start c .pre .1 .2 .size, slotted c)
 
--- src/write.rt:90:28
-write-below-part-write-below-start : (t : ℕ) → write-below-lts.Need-part-write-below-start (
-  write-leaf-reads.Asked,
-  write-leaf-reads.Learnt,
-  fork-of-reads.Asked,
-  fork-of-reads.Learnt,
-  has-prefix-reads.Asked,
-  has-prefix-reads.Learnt,
-  write-off-reads.Asked,
-  write-off-reads.Learnt,
-  label-bit-reads.Asked,
-  label-bit-reads.Learnt,
-  digest-at-reads.Asked,
-  digest-at-reads.Learnt,
-  write-step-reads.Asked,
-  write-step-reads.Learnt,
-  write-below-below t,
-  write-below.Post,
-) (write-below-at t) write-below.Post
-write-below-part-write-below-start t c = ?
+  mul-behind : write-below-lts.Need-mul-behind claims Pre write-below.Post
+  mul-behind c = let h = cut c in omega (arith, h .small, h .least, h .less, start c .pre .1 .2 .size, slotted c)
 
--- src/write.rt:90:28
-write-below-part-write-below-end : (t : ℕ) → write-below-lts.Need-part-write-below-end (
-  write-leaf-reads.Asked,
-  write-leaf-reads.Learnt,
-  fork-of-reads.Asked,
-  fork-of-reads.Learnt,
-  has-prefix-reads.Asked,
-  has-prefix-reads.Learnt,
-  write-off-reads.Asked,
-  write-off-reads.Learnt,
-  label-bit-reads.Asked,
-  label-bit-reads.Learnt,
-  digest-at-reads.Asked,
-  digest-at-reads.Learnt,
-  write-step-reads.Asked,
-  write-step-reads.Learnt,
-  write-below-below t,
-  write-below.Post,
-) (write-below-at t) write-below.Post
-write-below-part-write-below-end t c = ?
+  has-prefix-requires : write-below-lts.Need-has-prefix-requires claims Pre write-below.Post
+  has-prefix-requires c κs = let h = cut c in (omega (arith, h .less, start c .pre .1 .2 .size), omega (arith, h .small), start c .pre .1 .5)
 
--- src/write.rt:90:42
-write-below-sub-write-below-2 : (t : ℕ) → write-below-lts.Need-sub-write-below-2 (
-  write-leaf-reads.Asked,
-  write-leaf-reads.Learnt,
-  fork-of-reads.Asked,
-  fork-of-reads.Learnt,
-  has-prefix-reads.Asked,
-  has-prefix-reads.Learnt,
-  write-off-reads.Asked,
-  write-off-reads.Learnt,
-  label-bit-reads.Asked,
-  label-bit-reads.Learnt,
-  digest-at-reads.Asked,
-  digest-at-reads.Learnt,
-  write-step-reads.Asked,
-  write-step-reads.Learnt,
-  write-below-below t,
-  write-below.Post,
-) (write-below-at t) write-below.Post
-write-below-sub-write-below-2 t c = ?
+  sub-write-off : write-below-lts.Need-sub-write-off claims Pre write-below.Post
+  sub-write-off c = let h = cut (c .before .before) in omega (arith, h .small, h .least, h .less, start (c .before .before) .pre .1 .2 .size, slotted (c .before .before))
 
--- src/write.rt:90:49
-write-below-add-write-below : (t : ℕ) → write-below-lts.Need-add-write-below (
-  write-leaf-reads.Asked,
-  write-leaf-reads.Learnt,
-  fork-of-reads.Asked,
-  fork-of-reads.Learnt,
-  has-prefix-reads.Asked,
-  has-prefix-reads.Learnt,
-  write-off-reads.Asked,
-  write-off-reads.Learnt,
-  label-bit-reads.Asked,
-  label-bit-reads.Learnt,
-  digest-at-reads.Asked,
-  digest-at-reads.Learnt,
-  write-step-reads.Asked,
-  write-step-reads.Learnt,
-  write-below-below t,
-  write-below.Post,
-) (write-below-at t) write-below.Post
-write-below-add-write-below t c = ?
+  part-write-off-start : write-below-lts.Need-part-write-off-start claims Pre write-below.Post
+  part-write-off-start c = let h = cut (c .before .before) in omega (arith, h .small, h .least, h .less, start (c .before .before) .pre .1 .2 .size, slotted (c .before .before))
 
--- src/write.rt:90:56
-write-below-sub-write-below-3 : (t : ℕ) → write-below-lts.Need-sub-write-below-3 (
-  write-leaf-reads.Asked,
-  write-leaf-reads.Learnt,
-  fork-of-reads.Asked,
-  fork-of-reads.Learnt,
-  has-prefix-reads.Asked,
-  has-prefix-reads.Learnt,
-  write-off-reads.Asked,
-  write-off-reads.Learnt,
-  label-bit-reads.Asked,
-  label-bit-reads.Learnt,
-  digest-at-reads.Asked,
-  digest-at-reads.Learnt,
-  write-step-reads.Asked,
-  write-step-reads.Learnt,
-  write-below-below t,
-  write-below.Post,
-) (write-below-at t) write-below.Post
-write-below-sub-write-below-3 t c = ?
+  part-write-off-end : write-below-lts.Need-part-write-off-end claims Pre write-below.Post
+  part-write-off-end c = let h = cut (c .before .before) in omega (arith, h .small, h .least, h .less, start (c .before .before) .pre .1 .2 .size, slotted (c .before .before))
 
--- src/write.rt:90:56
-write-below-part-write-below-start-2 : (t : ℕ) → write-below-lts.Need-part-write-below-start-2 (
-  write-leaf-reads.Asked,
-  write-leaf-reads.Learnt,
-  fork-of-reads.Asked,
-  fork-of-reads.Learnt,
-  has-prefix-reads.Asked,
-  has-prefix-reads.Learnt,
-  write-off-reads.Asked,
-  write-off-reads.Learnt,
-  label-bit-reads.Asked,
-  label-bit-reads.Learnt,
-  digest-at-reads.Asked,
-  digest-at-reads.Learnt,
-  write-step-reads.Asked,
-  write-step-reads.Learnt,
-  write-below-below t,
-  write-below.Post,
-) (write-below-at t) write-below.Post
-write-below-part-write-below-start-2 t c = ?
+  -- the label has not the prefix
+  off-way : (c : write-below-lts.Then2 claims Pre write-below.Post)
+      → wayBytes (label (c .before .before)) (whole (c .before .before)) ≡ endBytes (off (prefix (c .before .before)) (digest (top (low (c .before .before)))) (digest (top (high (c .before .before)))))
+  off-way c =
+      let w = c .before .before in
+      off-bytes (label w) _ _ _ _ (cut w .tree) (sym (c .before .has-prefix .ensures) ∙ not-true _ (c .if2 .taken))
 
--- src/write.rt:90:56
-write-below-part-write-below-end-2 : (t : ℕ) → write-below-lts.Need-part-write-below-end-2 (
-  write-leaf-reads.Asked,
-  write-leaf-reads.Learnt,
-  fork-of-reads.Asked,
-  fork-of-reads.Learnt,
-  has-prefix-reads.Asked,
-  has-prefix-reads.Learnt,
-  write-off-reads.Asked,
-  write-off-reads.Learnt,
-  label-bit-reads.Asked,
-  label-bit-reads.Learnt,
-  digest-at-reads.Asked,
-  digest-at-reads.Learnt,
-  write-step-reads.Asked,
-  write-step-reads.Learnt,
-  write-below-below t,
-  write-below.Post,
-) (write-below-at t) write-below.Post
-write-below-part-write-below-end-2 t c = ?
+  slot : (c : write-below-lts.After-fork-of claims Pre write-below.Post)
+      → take (left c * 64 - (left c - 1) * 64) (drop ((left c - 1) * 64) (start c .args .slots .now)) ≡ digest (top (low c)) ++ digest (top (high c))
+  slot c =
+      let a = start c .args in
+      let e : left c * 64 - (left c - 1) * 64 ≡ 64 = omega (arith, cut c .least) in
+      ap (λ i. take i (drop ((left c - 1) * 64) (a .slots .now))) e
+      ∙ the-slot (a .n) (a .from) (a .s .now) (bits c) (left c) (start c .pre .1 .2) (cut c) (a .slots .now) (start c .pre .1 .4)
 
--- src/write.rt:90:86
-write-below-add-write-below-2 : (t : ℕ) → write-below-lts.Need-add-write-below-2 (
-  write-leaf-reads.Asked,
-  write-leaf-reads.Learnt,
-  fork-of-reads.Asked,
-  fork-of-reads.Learnt,
-  has-prefix-reads.Asked,
-  has-prefix-reads.Learnt,
-  write-off-reads.Asked,
-  write-off-reads.Learnt,
-  label-bit-reads.Asked,
-  label-bit-reads.Learnt,
-  digest-at-reads.Asked,
-  digest-at-reads.Learnt,
-  write-step-reads.Asked,
-  write-step-reads.Learnt,
-  write-below-below t,
-  write-below.Post,
-) (write-below-at t) write-below.Post
-write-below-add-write-below-2 t c = ?
+  write-off-requires : write-below-lts.Need-write-off-requires claims Pre write-below.Post
+  write-off-requires c κs =
+      let w = c .before .before .before .before in
+      let h = cut w in
+      let l = slot-wide (low w) (high w) in (
+        omega (arith, h .less, start w .pre .1 .2 .size),
+        omega (arith, h .small),
+        ap length (slot w) ∙ l,
+        omega (arith, start w .pre .1 .6, ap length (off-way (c .before .before)), off-long (prefix w) (digest (top (low w))) (digest (top (high w))), length-append (digest (top (low w))) (digest (top (high w))), l),
+      )
 
--- src/write.rt:90:9
-write-below-write-below-requires : (t : ℕ) → write-below-lts.Need-write-below-requires (
-  write-leaf-reads.Asked,
-  write-leaf-reads.Learnt,
-  fork-of-reads.Asked,
-  fork-of-reads.Learnt,
-  has-prefix-reads.Asked,
-  has-prefix-reads.Learnt,
-  write-off-reads.Asked,
-  write-off-reads.Learnt,
-  label-bit-reads.Asked,
-  label-bit-reads.Learnt,
-  digest-at-reads.Asked,
-  digest-at-reads.Learnt,
-  write-step-reads.Asked,
-  write-step-reads.Learnt,
-  write-below-below t,
-  write-below.Post,
-) (write-below-at t) write-below.Post
-write-below-write-below-requires t c κs = ?
+  same-length-2 : write-below-lts.Need-same-length-2 claims Pre write-below.Post
+  same-length-2 c = c .before .before .write-off .kept .1 .1 .1 .0
 
--- src/write.rt:90:9
-write-below-same-length-3 : (t : ℕ) → write-below-lts.Need-same-length-3 (
-  write-leaf-reads.Asked,
-  write-leaf-reads.Learnt,
-  fork-of-reads.Asked,
-  fork-of-reads.Learnt,
-  has-prefix-reads.Asked,
-  has-prefix-reads.Learnt,
-  write-off-reads.Asked,
-  write-off-reads.Learnt,
-  label-bit-reads.Asked,
-  label-bit-reads.Learnt,
-  digest-at-reads.Asked,
-  digest-at-reads.Learnt,
-  write-step-reads.Asked,
-  write-step-reads.Learnt,
-  write-below-below t,
-  write-below.Post,
-) (write-below-at t) write-below.Post
-write-below-same-length-3 t c = ?
+  returns-2 : write-below-lts.Need-returns-2 claims Pre write-below.Post
+  returns-2 c =
+      let w = c .before .before .before .before .before .before .before in
+      let a = start w .args in
+      let x = digest (top (low w)) in
+      let y = digest (top (high w)) in
+      let e : take 32 (x ++ y) ≡ x = take-at x y 32 (digest-wide (nodeString (top (low w))) .size) in
+      let f : drop 32 (x ++ y) ≡ y = drop-at x y 32 (digest-wide (nodeString (top (low w))) .size) in
+      let q = (λ i. endBytes (off (prefix w) (take 32 (slot w i)) (drop 32 (slot w i)))) ∙ ap₂ (λ l r. endBytes (off (prefix w) l r)) e f ∙ sym (off-way (c .before .before .before .before .before)) in
+      subst (λ z. Wrote (a .out .now) (a .at) z (c .before .before .write-off .last .1 .1 .1 .0) (c .before .before .write-off .result)) q (c .before .before .write-off .ensures)
 
--- src/write.rt:90:9
-write-below-returns-3 : (t : ℕ) → write-below-lts.Need-returns-3 (
-  write-leaf-reads.Asked,
-  write-leaf-reads.Learnt,
-  fork-of-reads.Asked,
-  fork-of-reads.Learnt,
-  has-prefix-reads.Asked,
-  has-prefix-reads.Learnt,
-  write-off-reads.Asked,
-  write-off-reads.Learnt,
-  label-bit-reads.Asked,
-  label-bit-reads.Learnt,
-  digest-at-reads.Asked,
-  digest-at-reads.Learnt,
-  write-step-reads.Asked,
-  write-step-reads.Learnt,
-  write-below-below t,
-  write-below.Post,
-) (write-below-at t) write-below.Post
-write-below-returns-3 t c = ?
+  mul-middle : write-below-lts.Need-mul-middle claims Pre write-below.Post
+  mul-middle c = let h = cut (c .before .before) in omega (arith, h .small, h .least, h .less, start (c .before .before) .pre .1 .2 .size, slotted (c .before .before))
 
--- src/write.rt:92:36
-write-below-add-digest-at : (t : ℕ) → write-below-lts.Need-add-digest-at (
-  write-leaf-reads.Asked,
-  write-leaf-reads.Learnt,
-  fork-of-reads.Asked,
-  fork-of-reads.Learnt,
-  has-prefix-reads.Asked,
-  has-prefix-reads.Learnt,
-  write-off-reads.Asked,
-  write-off-reads.Learnt,
-  label-bit-reads.Asked,
-  label-bit-reads.Learnt,
-  digest-at-reads.Asked,
-  digest-at-reads.Learnt,
-  write-step-reads.Asked,
-  write-step-reads.Learnt,
-  write-below-below t,
-  write-below.Post,
-) (write-below-at t) write-below.Post
-write-below-add-digest-at t c = ?
+  label-bit-requires : write-below-lts.Need-label-bit-requires claims Pre write-below.Post
+  label-bit-requires c κs = search needs
 
--- src/write.rt:92:19
-write-below-digest-at-requires-2 : (t : ℕ) → write-below-lts.Need-digest-at-requires-2 (
-  write-leaf-reads.Asked,
-  write-leaf-reads.Learnt,
-  fork-of-reads.Asked,
-  fork-of-reads.Learnt,
-  has-prefix-reads.Asked,
-  has-prefix-reads.Learnt,
-  write-off-reads.Asked,
-  write-off-reads.Learnt,
-  label-bit-reads.Asked,
-  label-bit-reads.Learnt,
-  digest-at-reads.Asked,
-  digest-at-reads.Learnt,
-  write-step-reads.Asked,
-  write-step-reads.Learnt,
-  write-below-below t,
-  write-below.Post,
-) (write-below-at t) write-below.Post
-write-below-digest-at-requires-2 t c κs = ?
+  -- it has the prefix, and goes down on a side
+  right-way : (c : write-below-lts.Then3 claims Pre write-below.Post)
+      → wayBytes (label (c .before .before .before .before)) (whole (c .before .before .before .before)) ≡ stepField .bytes (record { length = bits (c .before .before .before .before); sibling = digest (top (low (c .before .before .before .before))) }) ++ wayBytes (label (c .before .before .before .before)) (high (c .before .before .before .before))
+  right-way c =
+      let w = c .before .before .before .before in
+      let begun = sym (c .before .before .before .has-prefix .ensures) ∙ not-false _ (c .before .before .if2 .left) in
+      turn-bytes (label w) _ _ _ _ (cut w .tree) (bits w) (size w) begun true (sym (c .before .label-bit .ensures) ∙ c .if3 .taken)
 
--- src/write.rt:93:5
-write-below-write-step-requires-2 : (t : ℕ) → write-below-lts.Need-write-step-requires-2 (
-  write-leaf-reads.Asked,
-  write-leaf-reads.Learnt,
-  fork-of-reads.Asked,
-  fork-of-reads.Learnt,
-  has-prefix-reads.Asked,
-  has-prefix-reads.Learnt,
-  write-off-reads.Asked,
-  write-off-reads.Learnt,
-  label-bit-reads.Asked,
-  label-bit-reads.Learnt,
-  digest-at-reads.Asked,
-  digest-at-reads.Learnt,
-  write-step-reads.Asked,
-  write-step-reads.Learnt,
-  write-below-below t,
-  write-below.Post,
-) (write-below-at t) write-below.Post
-write-below-write-step-requires-2 t c κs = ?
+  digest-at-requires : write-below-lts.Need-digest-at-requires claims Pre write-below.Post
+  digest-at-requires c κs = let h = cut (c .before .before .before .before) in omega (arith, h .small, h .least, h .less, start (c .before .before .before .before) .pre .1 .2 .size, slotted (c .before .before .before .before))
 
--- src/write.rt:94:17
-write-below-slice-aggregate-write-below :
-    (t : ℕ) → write-below-lts.Need-slice-aggregate-write-below (
-      write-leaf-reads.Asked,
-      write-leaf-reads.Learnt,
-      fork-of-reads.Asked,
-      fork-of-reads.Learnt,
-      has-prefix-reads.Asked,
-      has-prefix-reads.Learnt,
-      write-off-reads.Asked,
-      write-off-reads.Learnt,
-      label-bit-reads.Asked,
-      label-bit-reads.Learnt,
-      digest-at-reads.Asked,
-      digest-at-reads.Learnt,
-      write-step-reads.Asked,
-      write-step-reads.Learnt,
-      write-below-below t,
-      write-below.Post,
-    ) (write-below-at t) write-below.Post
-write-below-slice-aggregate-write-below t c = ?
+  write-step-requires : write-below-lts.Need-write-step-requires claims Pre write-below.Post
+  write-step-requires c κs =
+      let w = c .before .before .before .before .before .before .before in
+      (omega (arith, start w .pre .1 .6, way-long (label w) (whole w) (high w) (bits w) (digest (top (low w))) (digest-wide (nodeString (top (low w))) .size) (right-way (c .before .before .before))), omega (arith, cut w .small))
 
--- src/write.rt:94:34
-write-below-add-write-below-3 : (t : ℕ) → write-below-lts.Need-add-write-below-3 (
-  write-leaf-reads.Asked,
-  write-leaf-reads.Learnt,
-  fork-of-reads.Asked,
-  fork-of-reads.Learnt,
-  has-prefix-reads.Asked,
-  has-prefix-reads.Learnt,
-  write-off-reads.Asked,
-  write-off-reads.Learnt,
-  label-bit-reads.Asked,
-  label-bit-reads.Learnt,
-  digest-at-reads.Asked,
-  digest-at-reads.Learnt,
-  write-step-reads.Asked,
-  write-step-reads.Learnt,
-  write-below-below t,
-  write-below.Post,
-) (write-below-at t) write-below.Post
-write-below-add-write-below-3 t c = ?
+  sub-write-below : write-below-lts.Need-sub-write-below claims Pre write-below.Post
+  sub-write-below c = let h = cut (c .before .before .before .before .before .before .before .before .before .before) in omega (arith, h .small, h .least, h .less, start (c .before .before .before .before .before .before .before .before .before .before) .pre .1 .2 .size, slotted (c .before .before .before .before .before .before .before .before .before .before))
 
--- src/write.rt:94:41
-write-below-slice-aggregate-write-below-2 :
-    (t : ℕ) → write-below-lts.Need-slice-aggregate-write-below-2 (
-      write-leaf-reads.Asked,
-      write-leaf-reads.Learnt,
-      fork-of-reads.Asked,
-      fork-of-reads.Learnt,
-      has-prefix-reads.Asked,
-      has-prefix-reads.Learnt,
-      write-off-reads.Asked,
-      write-off-reads.Learnt,
-      label-bit-reads.Asked,
-      label-bit-reads.Learnt,
-      digest-at-reads.Asked,
-      digest-at-reads.Learnt,
-      write-step-reads.Asked,
-      write-step-reads.Learnt,
-      write-below-below t,
-      write-below.Post,
-    ) (write-below-at t) write-below.Post
-write-below-slice-aggregate-write-below-2 t c = ?
+  part-write-below-start : write-below-lts.Need-part-write-below-start claims Pre write-below.Post
+  part-write-below-start c = let h = cut (c .before .before .before .before .before .before .before .before .before .before) in omega (arith, h .small, h .least, h .less, start (c .before .before .before .before .before .before .before .before .before .before) .pre .1 .2 .size, slotted (c .before .before .before .before .before .before .before .before .before .before))
 
--- src/write.rt:94:69
-write-below-add-write-below-4 : (t : ℕ) → write-below-lts.Need-add-write-below-4 (
-  write-leaf-reads.Asked,
-  write-leaf-reads.Learnt,
-  fork-of-reads.Asked,
-  fork-of-reads.Learnt,
-  has-prefix-reads.Asked,
-  has-prefix-reads.Learnt,
-  write-off-reads.Asked,
-  write-off-reads.Learnt,
-  label-bit-reads.Asked,
-  label-bit-reads.Learnt,
-  digest-at-reads.Asked,
-  digest-at-reads.Learnt,
-  write-step-reads.Asked,
-  write-step-reads.Learnt,
-  write-below-below t,
-  write-below.Post,
-) (write-below-at t) write-below.Post
-write-below-add-write-below-4 t c = ?
+  part-write-below-end : write-below-lts.Need-part-write-below-end claims Pre write-below.Post
+  part-write-below-end c = search needs
 
--- src/write.rt:94:5
-write-below-write-below-requires-2 : (t : ℕ) → write-below-lts.Need-write-below-requires-2 (
-  write-leaf-reads.Asked,
-  write-leaf-reads.Learnt,
-  fork-of-reads.Asked,
-  fork-of-reads.Learnt,
-  has-prefix-reads.Asked,
-  has-prefix-reads.Learnt,
-  write-off-reads.Asked,
-  write-off-reads.Learnt,
-  label-bit-reads.Asked,
-  label-bit-reads.Learnt,
-  digest-at-reads.Asked,
-  digest-at-reads.Learnt,
-  write-step-reads.Asked,
-  write-step-reads.Learnt,
-  write-below-below t,
-  write-below.Post,
-) (write-below-at t) write-below.Post
-write-below-write-below-requires-2 t c κs = ?
+  sub-write-below-2 : write-below-lts.Need-sub-write-below-2 claims Pre write-below.Post
+  sub-write-below-2 c = let h = cut (c .before .before .before .before .before .before .before .before .before .before .before) in omega (arith, h .small, h .least, h .less, start (c .before .before .before .before .before .before .before .before .before .before .before) .pre .1 .2 .size, slotted (c .before .before .before .before .before .before .before .before .before .before .before))
 
--- src/write.rt:63:1
-write-below-same-length-4 : (t : ℕ) → write-below-lts.Need-same-length-4 (
-  write-leaf-reads.Asked,
-  write-leaf-reads.Learnt,
-  fork-of-reads.Asked,
-  fork-of-reads.Learnt,
-  has-prefix-reads.Asked,
-  has-prefix-reads.Learnt,
-  write-off-reads.Asked,
-  write-off-reads.Learnt,
-  label-bit-reads.Asked,
-  label-bit-reads.Learnt,
-  digest-at-reads.Asked,
-  digest-at-reads.Learnt,
-  write-step-reads.Asked,
-  write-step-reads.Learnt,
-  write-below-below t,
-  write-below.Post,
-) (write-below-at t) write-below.Post
-write-below-same-length-4 t c = ?
+  add-write-below : write-below-lts.Need-add-write-below claims Pre write-below.Post
+  add-write-below c = let h = cut (c .before .before .before .before .before .before .before .before .before .before .before) in omega (arith, h .small, h .least, h .less, start (c .before .before .before .before .before .before .before .before .before .before .before) .pre .1 .2 .size, slotted (c .before .before .before .before .before .before .before .before .before .before .before))
 
--- src/write.rt:63:1
-write-below-returns-4 : (t : ℕ) → write-below-lts.Need-returns-4 (
-  write-leaf-reads.Asked,
-  write-leaf-reads.Learnt,
-  fork-of-reads.Asked,
-  fork-of-reads.Learnt,
-  has-prefix-reads.Asked,
-  has-prefix-reads.Learnt,
-  write-off-reads.Asked,
-  write-off-reads.Learnt,
-  label-bit-reads.Asked,
-  label-bit-reads.Learnt,
-  digest-at-reads.Asked,
-  digest-at-reads.Learnt,
-  write-step-reads.Asked,
-  write-step-reads.Learnt,
-  write-below-below t,
-  write-below.Post,
-) (write-below-at t) write-below.Post
-write-below-returns-4 t c = ?
+  sub-write-below-3 : write-below-lts.Need-sub-write-below-3 claims Pre write-below.Post
+  sub-write-below-3 c = let h = cut (c .before .before .before .before .before .before .before .before .before .before .before) in omega (arith, h .small, h .least, h .less, start (c .before .before .before .before .before .before .before .before .before .before .before) .pre .1 .2 .size, slotted (c .before .before .before .before .before .before .before .before .before .before .before))
+
+  part-write-below-start-2 : write-below-lts.Need-part-write-below-start-2 claims Pre write-below.Post
+  part-write-below-start-2 c = let h = cut (c .before .before .before .before .before .before .before .before .before .before .before) in omega (arith, h .small, h .least, h .less, start (c .before .before .before .before .before .before .before .before .before .before .before) .pre .1 .2 .size, slotted (c .before .before .before .before .before .before .before .before .before .before .before))
+
+  part-write-below-end-2 : write-below-lts.Need-part-write-below-end-2 claims Pre write-below.Post
+  part-write-below-end-2 c = search needs
+
+  add-write-below-2 : write-below-lts.Need-add-write-below-2 claims Pre write-below.Post
+  add-write-below-2 c = let w = c .before .before .before .before .before .before .before .before .before .before .before .before .before in omega (arith, start w .pre .1 .6, way-long (label w) (whole w) (high w) (bits w) (digest (top (low w))) (digest-wide (nodeString (top (low w))) .size) (right-way (c .before .before .before .before .before .before .before .before .before)))
+
+  write-below-requires : write-below-lts.Need-write-below-requires claims Pre write-below.Post
+  write-below-requires c κs =
+      let w = c .before .before .before .before .before .before .before .before .before .before .before .before .before in
+      let a = start w .args in
+      let h = cut w in
+      let q = start w .pre .0 in (
+        omega (arith, q, h .deeper, h .small),
+        (
+          omega (arith, h .less),
+          omega arith,
+          behind-sorted (a .n) (a .s .now) (start w .pre .1 .2) (left w) (omega (arith, h .less)),
+          h .right,
+          high-slots (a .n) (a .from) (a .s .now) (bits w) (left w) (start w .pre .1 .2) h (a .slots .now) (start w .pre .1 .4),
+          start w .pre .1 .5,
+          omega (arith, start w .pre .1 .6, c .before .before .before .before .before .write-step .kept .0, way-long (label w) (whole w) (high w) (bits w) (digest (top (low w))) (digest-wide (nodeString (top (low w))) .size) (right-way (c .before .before .before .before .before .before .before .before .before))),
+        ),
+      )
+
+  same-length-3 : write-below-lts.Need-same-length-3 claims Pre write-below.Post
+  same-length-3 c = c .before .before .write-below .kept .1 .1 .1 .1 .1 .0 ∙ c .before .before .before .before .before .before .before .before .write-step .kept .0
+
+  returns-3 : write-below-lts.Need-returns-3 claims Pre write-below.Post
+  returns-3 c =
+      let stepped = c .before .before .before .before .before .before .before .before in
+      let w = c .before .before .before .before .before .before .before .before .before .before .before .before .before .before .before .before in
+      let a = start w .args in
+      let x : stepped .before .before .before .digest-at .result ≡ digest (top (low w)) =
+      stepped .before .before .before .digest-at .ensures ∙ low-digest (a .n) (a .from) (a .s .now) (bits w) (left w) (start w .pre .1 .2) (cut w) (a .slots .now) (start w .pre .1 .4) in
+      way-wrote (label w) (whole w) (high w) (bits w) (digest (top (low w))) (digest-wide (nodeString (top (low w))) .size) (right-way (c .before .before .before .before .before .before .before .before .before .before .before .before)) (a .out .now) _ _ (a .at) (a .at + 34) _ (omega (arith, start w .pre .1 .6)) refl
+      (stepped .write-step .ensures ∙ ap (λ y. pasted (a .out .now) (a .at) (stepField .bytes (record { length = bits w; sibling = y }))) x) (c .before .before .write-below .ensures)
+
+  left-way : (c : write-below-lts.Else3 claims Pre write-below.Post)
+      → wayBytes (label (c .before .before .before .before)) (whole (c .before .before .before .before)) ≡ stepField .bytes (record { length = bits (c .before .before .before .before); sibling = digest (top (high (c .before .before .before .before))) }) ++ wayBytes (label (c .before .before .before .before)) (low (c .before .before .before .before))
+  left-way c =
+      let w = c .before .before .before .before in
+      let begun = sym (c .before .before .before .has-prefix .ensures) ∙ not-false _ (c .before .before .if2 .left) in
+      turn-bytes (label w) _ _ _ _ (cut w .tree) (bits w) (size w) begun false (sym (c .before .label-bit .ensures) ∙ c .if3 .left)
+
+  add-digest-at : write-below-lts.Need-add-digest-at claims Pre write-below.Post
+  add-digest-at c = let h = cut (c .before .before .before .before) in omega (arith, h .small, h .least, h .less, start (c .before .before .before .before) .pre .1 .2 .size, slotted (c .before .before .before .before))
+
+  digest-at-requires-2 : write-below-lts.Need-digest-at-requires-2 claims Pre write-below.Post
+  digest-at-requires-2 c κs = let h = cut (c .before .before .before .before) in omega (arith, h .small, h .least, h .less, start (c .before .before .before .before) .pre .1 .2 .size, slotted (c .before .before .before .before))
+
+  write-step-requires-2 : write-below-lts.Need-write-step-requires-2 claims Pre write-below.Post
+  write-step-requires-2 c κs =
+      let w = c .before .before .before .before .before .before .before in
+      (omega (arith, start w .pre .1 .6, way-long (label w) (whole w) (low w) (bits w) (digest (top (high w))) (digest-wide (nodeString (top (high w))) .size) (left-way (c .before .before .before))), omega (arith, cut w .small))
+
+  slice-aggregate-write-below : write-below-lts.Need-slice-aggregate-write-below claims Pre write-below.Post
+  slice-aggregate-write-below c = let w = c .before .before .before .before .before .before .before .before .before .before .before in sym (length-take-le (left w * 68) (start w .args .s .now) (let h = cut (c .before .before .before .before .before .before .before .before .before .before .before) in omega (arith, h .small, h .least, h .less, start (c .before .before .before .before .before .before .before .before .before .before .before) .pre .1 .2 .size, slotted (c .before .before .before .before .before .before .before .before .before .before .before))))
+
+  add-write-below-3 : write-below-lts.Need-add-write-below-3 claims Pre write-below.Post
+  add-write-below-3 c = let h = cut (c .before .before .before .before .before .before .before .before .before .before .before) in omega (arith, h .small, h .least, h .less, start (c .before .before .before .before .before .before .before .before .before .before .before) .pre .1 .2 .size, slotted (c .before .before .before .before .before .before .before .before .before .before .before))
+
+  slice-aggregate-write-below-2 : write-below-lts.Need-slice-aggregate-write-below-2 claims Pre write-below.Post
+  slice-aggregate-write-below-2 c = let w = c .before .before .before .before .before .before .before .before .before .before .before .before in sym (length-take-le ((left w - 1) * 64) (start w .args .slots .now) (let h = cut (c .before .before .before .before .before .before .before .before .before .before .before .before) in omega (arith, h .small, h .least, h .less, start (c .before .before .before .before .before .before .before .before .before .before .before .before) .pre .1 .2 .size, slotted (c .before .before .before .before .before .before .before .before .before .before .before .before))))
+
+  add-write-below-4 : write-below-lts.Need-add-write-below-4 claims Pre write-below.Post
+  add-write-below-4 c = let w = c .before .before .before .before .before .before .before .before .before .before .before .before .before in omega (arith, start w .pre .1 .6, way-long (label w) (whole w) (low w) (bits w) (digest (top (high w))) (digest-wide (nodeString (top (high w))) .size) (left-way (c .before .before .before .before .before .before .before .before .before)))
+
+  write-below-requires-2 : write-below-lts.Need-write-below-requires-2 claims Pre write-below.Post
+  write-below-requires-2 c κs =
+      let w = c .before .before .before .before .before .before .before .before .before .before .before .before .before in
+      let a = start w .args in
+      let h = cut w in
+      let q = start w .pre .0 in (
+        omega (arith, q, h .deeper, h .small),
+        (
+          h .least,
+          omega arith,
+          before-sorted (a .n) (a .s .now) (start w .pre .1 .2) (left w) (omega (arith, h .less)),
+          h .left,
+          low-slots (a .n) (a .from) (a .s .now) (bits w) (left w) (start w .pre .1 .2) h (a .slots .now) (start w .pre .1 .4),
+          start w .pre .1 .5,
+          omega (arith, start w .pre .1 .6, c .before .before .before .before .before .write-step2 .kept .0, way-long (label w) (whole w) (low w) (bits w) (digest (top (high w))) (digest-wide (nodeString (top (high w))) .size) (left-way (c .before .before .before .before .before .before .before .before .before))),
+        ),
+      )
+
+  same-length-4 : write-below-lts.Need-same-length-4 claims Pre write-below.Post
+  same-length-4 c = c .before .before .write-below2 .kept .1 .1 .1 .1 .1 .0 ∙ c .before .before .before .before .before .before .before .before .write-step2 .kept .0
+
+  returns-4 : write-below-lts.Need-returns-4 claims Pre write-below.Post
+  returns-4 c =
+      let stepped = c .before .before .before .before .before .before .before .before in
+      let w = c .before .before .before .before .before .before .before .before .before .before .before .before .before .before .before .before in
+      let a = start w .args in
+      let x : stepped .before .before .before .digest-at2 .result ≡ digest (top (high w)) =
+      stepped .before .before .before .digest-at2 .ensures ∙ high-digest (a .n) (a .from) (a .s .now) (bits w) (left w) (start w .pre .1 .2) (cut w) (a .slots .now) (start w .pre .1 .4) in
+      way-wrote (label w) (whole w) (low w) (bits w) (digest (top (high w))) (digest-wide (nodeString (top (high w))) .size) (left-way (c .before .before .before .before .before .before .before .before .before .before .before .before)) (a .out .now) _ _ (a .at) (a .at + 34) _ (omega (arith, start w .pre .1 .6)) refl
+      (stepped .write-step2 .ensures ∙ ap (λ y. pasted (a .out .now) (a .at) (stepField .bytes (record { length = bits w; sibling = y }))) x) (c .before .before .write-below2 .ensures)
 
 pub +write-below-spec : {M : Type 1} → statement M
-+write-below-spec = close μ-write-below λ t. write-below-lts.spec (
-  write-leaf-reads.Asked,
-  write-leaf-reads.Learnt,
-  fork-of-reads.Asked,
-  fork-of-reads.Learnt,
-  has-prefix-reads.Asked,
-  has-prefix-reads.Learnt,
-  write-off-reads.Asked,
-  write-off-reads.Learnt,
-  label-bit-reads.Asked,
-  label-bit-reads.Learnt,
-  digest-at-reads.Asked,
-  digest-at-reads.Learnt,
-  write-step-reads.Asked,
-  write-step-reads.Learnt,
-  write-below-below t,
-  write-below.Post,
-)
-    (write-below-at t)
-    write-below.Post
-    (write-below-write-leaf-requires t)
-    (write-below-same-length t)
-    (write-below-returns t)
-    (write-below-fork-of-requires t)
-    (write-below-sub-slot t)
-    (write-below-mul-slot t)
-    (write-below-mul-behind t)
-    (write-below-has-prefix-requires t)
-    (write-below-sub-write-off t)
-    (write-below-part-write-off-start t)
-    (write-below-part-write-off-end t)
-    (write-below-write-off-requires t)
-    (write-below-same-length-2 t)
-    (write-below-returns-2 t)
-    (write-below-mul-middle t)
-    (write-below-label-bit-requires t)
-    (write-below-digest-at-requires t)
-    (write-below-write-step-requires t)
-    (write-below-sub-write-below t)
-    (write-below-part-write-below-start t)
-    (write-below-part-write-below-end t)
-    (write-below-sub-write-below-2 t)
-    (write-below-add-write-below t)
-    (write-below-sub-write-below-3 t)
-    (write-below-part-write-below-start-2 t)
-    (write-below-part-write-below-end-2 t)
-    (write-below-add-write-below-2 t)
-    (write-below-write-below-requires t)
-    (write-below-same-length-3 t)
-    (write-below-returns-3 t)
-    (write-below-add-digest-at t)
-    (write-below-digest-at-requires-2 t)
-    (write-below-write-step-requires-2 t)
-    (write-below-slice-aggregate-write-below t)
-    (write-below-add-write-below-3 t)
-    (write-below-slice-aggregate-write-below-2 t)
-    (write-below-add-write-below-4 t)
-    (write-below-write-below-requires-2 t)
-    (write-below-same-length-4 t)
-    (write-below-returns-4 t)
++write-below-spec = close μ-write-below λ t. write-below-lts.spec (claims t) (Pre t) write-below.Post
+    (write-leaf-requires t)
+    (same-length t)
+    (returns t)
+    (fork-of-requires t)
+    (sub-slot t)
+    (mul-slot t)
+    (mul-behind t)
+    (has-prefix-requires t)
+    (sub-write-off t)
+    (part-write-off-start t)
+    (part-write-off-end t)
+    (write-off-requires t)
+    (same-length-2 t)
+    (returns-2 t)
+    (mul-middle t)
+    (label-bit-requires t)
+    (digest-at-requires t)
+    (write-step-requires t)
+    (sub-write-below t)
+    (part-write-below-start t)
+    (part-write-below-end t)
+    (sub-write-below-2 t)
+    (add-write-below t)
+    (sub-write-below-3 t)
+    (part-write-below-start-2 t)
+    (part-write-below-end-2 t)
+    (add-write-below-2 t)
+    (write-below-requires t)
+    (same-length-3 t)
+    (returns-3 t)
+    (add-digest-at t)
+    (digest-at-requires-2 t)
+    (write-step-requires-2 t)
+    (slice-aggregate-write-below t)
+    (add-write-below-3 t)
+    (slice-aggregate-write-below-2 t)
+    (add-write-below-4 t)
+    (write-below-requires-2 t)
+    (same-length-4 t)
+    (returns-4 t)

@@ -1,97 +1,94 @@
+-- `tree_path::write_leaf`: the fields of an end are bytes of the leaf.
 use borrow.Author.Needs.{needs}
+use native.Mathlib.Omega.{arith}
+use mathlib.Core.Path.{_≡_, sym, ap, _∙_, subst}
+use mathlib.Core.Bool.{true, false}
+use mathlib.Core.List.{_∷_}
+use lib.ListN.{length, take, drop}
+use lib.Seq.{length-take-le}
+use Rattle.paper.specs.Bits.{Bits, bitsOf}
+use Rattle.paper.specs.Strings.{Node}
+use Rattle.paper.specs.Tree.{key}
+use Rattle.paper.specs.Path.{sameBits, endAt}
+use Rattle.paper.specs.Level.{entryLeaf}
+use Rattle.words.proofs.Pasted.{length-part}
+use Rattle.tree.proofs.Rising.{all-at}
+use Rattle.tree_path.specs.Written.{endBytes, Wrote}
+use Rattle.tree_path.proofs.Ends.{leaf-this, leaf-other}
 use Rattle.tree_path.proofs.write.write_leaf.Statement.{statement}
 use Rattle.tree_path.proofs.write.write_leaf.Tie as tie
-use Rattle.tree_path.proofs.write.write_leaf.Reads as reads
-use Rattle.tree_path.proofs.write.write_leaf.Lts as lts
-use Rattle.tree_path.proofs.walk.is_label.Reads as is-label-reads
-use Rattle.words.proofs.put.Reads as put-reads
 
--- src/write.rt:39:8
+abbrev start : tie.After-is-label → tie.Start
+start c = c .before .before .before .before
+
+-- the end at the leaf
+abbrev label : tie.After-is-label → Bits
+label c = bitsOf (start c .args .label .now)
+
+abbrev node : tie.After-is-label → Node
+node c = entryLeaf (start c .args .s .now)
+
+this : (c : tie.After-is-label) → sameBits (key (node c)) (label c) ≡ true → endBytes (endAt (label c) (node c)) ≡ 0 ∷ take 36 (drop 32 (start c .args .s .now))
+this c = leaf-this (start c .args .s .now) (start c .pre .0) (all-at _ (start c .args .s .now) 0 (λ i h. c .before .before .before .shared-slice-known .given i .fits)) (label c)
+
+other : (c : tie.After-is-label) → sameBits (key (node c)) (label c) ≡ false → endBytes (endAt (label c) (node c)) ≡ 1 ∷ take 68 (start c .args .s .now)
+other c = leaf-other (start c .args .s .now) (start c .pre .0) (all-at _ (start c .args .s .now) 0 (λ i h. c .before .before .before .shared-slice-known .given i .fits)) (label c)
+
 is-label-requires : tie.Need-is-label-requires
 is-label-requires c κs = search needs
 
--- src/write.rt:40:9
-slice-write-out : tie.Need-slice-write-out
-slice-write-out c = ?
+sub-write-end : tie.Need-sub-write-end
+sub-write-end c = search needs
 
--- src/write.rt:41:18
-add-put : tie.Need-add-put
-add-put c = search needs
+part-write-end-start : tie.Need-part-write-end-start
+part-write-end-start c = search needs
 
--- src/write.rt:41:26
-sub-put : tie.Need-sub-put
-sub-put c = search needs
+part-write-end-end : tie.Need-part-write-end-end
+part-write-end-end c = search needs
 
--- src/write.rt:41:26
-part-put-start : tie.Need-part-put-start
-part-put-start c = search needs
+write-end-requires : tie.Need-write-end-requires
+write-end-requires c κs =
+    let w = c .before .before .before in
+    let s = start w .args .s .now in
+    omega (arith, start w .pre .2, ap length (this w (sym (w .is-label .ensures) ∙ c .before .before .if1 .taken)), length-part s 32 36 (start w .pre .0))
 
--- src/write.rt:41:26
-part-put-end : tie.Need-part-put-end
-part-put-end c = search needs
-
--- src/write.rt:41:9
-put-requires : tie.Need-put-requires
-put-requires c κs = ?
-
--- src/write.rt:42:16
-add-result : tie.Need-add-result
-add-result c = search needs
-
--- src/write.rt:42:9
 same-length : tie.Need-same-length
-same-length c = ?
+same-length c = search needs
 
--- src/write.rt:42:9
 returns : tie.Need-returns
-returns c = ?
+returns c =
+    let w = c .before .before .before .before .before .before in
+    subst (λ x. Wrote (start w .args .out .now) (start w .args .at) x (c .before .before .write-end .last .0) (c .before .before .write-end .result)) (sym (this w (sym (w .is-label .ensures) ∙ c .before .before .before .before .before .if1 .taken))) (c .before .before .write-end .ensures)
 
--- src/write.rt:44:5
-slice-write-out-2 : tie.Need-slice-write-out-2
-slice-write-out-2 c = ?
+slice-aggregate-write-end : tie.Need-slice-aggregate-write-end
+slice-aggregate-write-end c = let w = c .before .before .before in sym (length-take-le 68 (start w .args .s .now) (start w .pre .0))
 
--- src/write.rt:45:14
-add-put-2 : tie.Need-add-put-2
-add-put-2 c = search needs
+write-end-requires-2 : tie.Need-write-end-requires-2
+write-end-requires-2 c κs =
+    let w = c .before .before .before in
+    let s = start w .args .s .now in
+    omega (arith, start w .pre .2, ap length (other w (sym (w .is-label .ensures) ∙ c .before .before .if1 .left)), length-take-le 68 s (start w .pre .0))
 
--- src/write.rt:45:22
-slice-aggregate-put : tie.Need-slice-aggregate-put
-slice-aggregate-put c = ?
-
--- src/write.rt:45:5
-put-requires-2 : tie.Need-put-requires-2
-put-requires-2 c κs = ?
-
--- src/write.rt:46:5
-add-result-2 : tie.Need-add-result-2
-add-result-2 c = search needs
-
--- src/write.rt:35:1
 same-length-2 : tie.Need-same-length-2
-same-length-2 c = ?
+same-length-2 c = search needs
 
--- src/write.rt:35:1
 returns-2 : tie.Need-returns-2
-returns-2 c = ?
+returns-2 c =
+    let w = c .before .before .before .before .before .before in
+    subst (λ x. Wrote (start w .args .out .now) (start w .args .at) x (c .before .before .write-end2 .last .0) (c .before .before .write-end2 .result)) (sym (other w (sym (w .is-label .ensures) ∙ c .before .before .before .before .before .if1 .left))) (c .before .before .write-end2 .ensures)
 
 pub write-leaf-spec : {M : Type 1} → statement M
 write-leaf-spec =
     tie.close
     (tie.spec
     is-label-requires
-    slice-write-out
-    add-put
-    sub-put
-    part-put-start
-    part-put-end
-    put-requires
-    add-result
+    sub-write-end
+    part-write-end-start
+    part-write-end-end
+    write-end-requires
     same-length
     returns
-    slice-write-out-2
-    add-put-2
-    slice-aggregate-put
-    put-requires-2
-    add-result-2
+    slice-aggregate-write-end
+    write-end-requires-2
     same-length-2
     returns-2)

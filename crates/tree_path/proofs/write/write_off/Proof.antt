@@ -1,68 +1,69 @@
+-- `tree_path::write_off`: kind, prefix length, prefix and the two digests, one right behind the other.
 use borrow.Author.Needs.{needs}
+use native.Mathlib.Omega.{arith}
+use mathlib.Core.Path.{ap, _∙_}
+use Prim.Native.Nat.{_+_}
+use lib.ListN.{take, length-set}
+use Rattle.paper.specs.Bytes.{pasted}
+use Rattle.paper.specs.Bits.{bitsOf, pack}
+use Rattle.tree_path.proofs.Ways.{prefix-size}
+use Rattle.tree_path.proofs.Writing.{off-wrote}
 use Rattle.tree_path.proofs.write.write_off.Statement.{statement}
 use Rattle.tree_path.proofs.write.write_off.Tie as tie
-use Rattle.tree_path.proofs.write.write_off.Reads as reads
-use Rattle.tree_path.proofs.write.write_off.Lts as lts
-use Rattle.bits.proofs.prefix_of.Reads as prefix-of-reads
-use Rattle.tree.proofs.label_of.Reads as label-of-reads
-use Rattle.words.proofs.put.Reads as put-reads
-use Rattle.words.proofs.write16.Reads as write16-reads
 
--- src/write.rt:54:5
 slice-write-out : tie.Need-slice-write-out
 slice-write-out c = search needs
 
--- src/write.rt:55:18
 add-write16 : tie.Need-add-write16
 add-write16 c = search needs
 
--- src/write.rt:55:26
 cast-write16 : tie.Need-cast-write16
 cast-write16 c = search needs
 
--- src/write.rt:55:5
 write16-requires : tie.Need-write16-requires
-write16-requires c κs = ?
+write16-requires c κs = let start = c .before .before .before .before in omega (arith, start .pre .3, length-set (start .args .out .now) (start .args .at) 2)
 
--- src/write.rt:56:14
 add-put : tie.Need-add-put
 add-put c = search needs
 
--- src/write.rt:56:33
 label-of-requires : tie.Need-label-of-requires
 label-of-requires c κs = search needs
 
--- src/write.rt:56:23
 prefix-of-requires : tie.Need-prefix-of-requires
 prefix-of-requires c κs = search needs
 
--- src/write.rt:56:22
 slice-aggregate-put : tie.Need-slice-aggregate-put
 slice-aggregate-put c = search needs
 
--- src/write.rt:56:5
 put-requires : tie.Need-put-requires
-put-requires c κs = ?
+put-requires c κs =
+    let start = c .before .before .before .before .before .before .before .before .before .before .before in
+    omega (arith, start .pre .3, c .before .before .before .before .before .before .write16 .kept .0, length-set (start .args .out .now) (start .args .at) 2)
 
--- src/write.rt:57:14
 add-put-2 : tie.Need-add-put-2
 add-put-2 c = search needs
 
--- src/write.rt:57:5
 put-requires-2 : tie.Need-put-requires-2
-put-requires-2 c κs = ?
+put-requires-2 c κs =
+    let start = c .before .before .before .before .before .before .before .before .before .before .before .before .before .before .before in
+    omega (arith, start .pre .2, start .pre .3, c .before .before .before .put .kept .0, c .before .before .before .before .before .before .before .before .before .before .write16 .kept .0, length-set (start .args .out .now) (start .args .at) 2)
 
--- src/write.rt:58:5
 add-result : tie.Need-add-result
 add-result c = search needs
 
--- src/write.rt:50:1
 same-length : tie.Need-same-length
-same-length c = ?
+same-length c =
+    let start = c .before .before .before .before .before .before .before .before .before .before .before .before .before .before .before .before .before .before in
+    c .before .before .put2 .kept .0 ∙ c .before .before .before .before .before .before .put .kept .0 ∙ c .before .before .before .before .before .before .before .before .before .before .before .before .before .write16 .kept .0 ∙ length-set (start .args .out .now) (start .args .at) 2
 
--- src/write.rt:50:1
 returns : tie.Need-returns
-returns c = ?
+returns c =
+    let start = c .before .before .before .before .before .before .before .before .before .before .before .before .before .before .before .before .before .before in
+    let a = start .args in
+    let p = take (a .k) (bitsOf (take 32 (a .s .now))) in
+    let e = c .before .before .before .before .before .before .before .before .prefix-of .ensures ∙ ap (λ x. pack 32 (take (a .k) (bitsOf x))) (c .before .before .before .before .before .before .before .before .before .label-of .ensures) in
+    off-wrote (a .out .now) _ _ _ (a .slot .now) (a .at) (a .k) p (start .pre .3) (prefix-size (a .s .now) (a .k) (start .pre .0) (omega (arith, start .pre .1))) (start .pre .2)
+    (c .before .before .before .before .before .before .before .before .before .before .before .before .before .write16 .ensures) (c .before .before .before .before .before .before .put .ensures ∙ ap (pasted (c .before .before .before .before .before .before .before .before .before .before .before .before .before .write16 .last .0) (a .at + 3)) e) (c .before .before .put2 .ensures)
 
 pub write-off-spec : {M : Type 1} → statement M
 write-off-spec =

@@ -1,47 +1,49 @@
+-- `tree_path::write_side`: nothing, or the way below the root; its slots come before the spare one.
 use borrow.Author.Needs.{needs}
+use native.Mathlib.Omega.{arith}
+use mathlib.Core.Path.{sym}
+use Prim.Native.Nat.{_-_, _*_}
+use lib.Seq.{length-take-le}
+use Rattle.paper.specs.Bits.{bitsOf}
+use Rattle.tree_path.proofs.Writing.{none-wrote}
 use Rattle.tree_path.proofs.write.write_side.Statement.{statement}
 use Rattle.tree_path.proofs.write.write_side.Tie as tie
-use Rattle.tree_path.proofs.write.write_side.Reads as reads
-use Rattle.tree_path.proofs.write.write_side.Lts as lts
-use Rattle.tree_path.proofs.write.write_below.Reads as write-below-reads
 
--- src/write.rt:110:9
 slice-write-out : tie.Need-slice-write-out
-slice-write-out c = ?
+slice-write-out c =
+    let start = c .before .before .before .before .before in
+    let a = start .args in
+    none-wrote (bitsOf (a .label .now)) (a .n) (a .s .now) (a .out .now) (a .at) (c .if1 .taken) (start .pre .5) .0
 
--- src/write.rt:111:16
 add-result : tie.Need-add-result
 add-result c = search needs
 
--- src/write.rt:111:9
 same-length : tie.Need-same-length
 same-length c = search needs
 
--- src/write.rt:111:9
 returns : tie.Need-returns
-returns c = ?
+returns c =
+    let start = c .before .before .before .before .before in
+    let a = start .args in
+    none-wrote (bitsOf (a .label .now)) (a .n) (a .s .now) (a .out .now) (a .at) (c .if1 .taken) (start .pre .5) .1
 
--- src/write.rt:113:18
 sub-spare : tie.Need-sub-spare
 sub-spare c = search needs
 
--- src/write.rt:113:17
 mul-spare : tie.Need-mul-spare
 mul-spare c = search needs
 
--- src/write.rt:114:26
 slice-aggregate-write-below : tie.Need-slice-aggregate-write-below
-slice-aggregate-write-below c = ?
+slice-aggregate-write-below c =
+    let start = c .before .before .before .before .before .before in
+    sym (length-take-le ((start .args .n - 1) * 64) (start .args .slots .now) (omega (arith, start .pre .2)))
 
--- src/write.rt:114:5
 write-below-requires : tie.Need-write-below-requires
 write-below-requires c κs = search needs
 
--- src/write.rt:98:1
 same-length-2 : tie.Need-same-length-2
 same-length-2 c = search needs
 
--- src/write.rt:98:1
 returns-2 : tie.Need-returns-2
 returns-2 c = search needs
 
