@@ -1,7 +1,7 @@
 -- The list of an audit at no leaf, at one, at a fork and at the root; a tree has a new leaf where one of its leaves is new; and there
 -- are no more records than leaves. Assumes nothing.
 use mathlib.Core.Path.{_≡_, refl, sym, ap, ap₂, _∙_}
-use mathlib.Core.Bool.{Bool, true, false, cond, true≢false, false≢true, _||_}
+use mathlib.Core.Bool.{Bool, true, false, cond, true≢false, false≢true, _||_, or-false}
 use mathlib.Core.List.{List, [], _∷_, _++_}
 use Prim.Native.Nat.{ℕ, zero, suc, _+_, _-_, _*_, _≤_, _<_}
 use native.Mathlib.Omega.{arith}
@@ -59,16 +59,12 @@ module _ (t : ℕ) where
       by false w e = rw (pfx-starts (p ▹ false) (key x) w, no-starts (p ▹ true) (key x) (λ v. true≢false (pfx-one-way p true false v w)))
           (near (some new (side (p ▹ false) S)) (some new (side (p ▹ true) S)) (new x) ∙ ap (λ b. new x || b) e)
 
-  or-none : (b : Bool) → (b || false) ≡ b
-  or-none true = refl
-  or-none false = refl
-
   build-new : (n : ℕ) (q : Bits) (S : List Node) → Free S → All (λ y. length (key y) ≤ 256) S → All (λ y. Pfx q (key y)) S → 256 < n + length q → hasNew t (build n S) ≡ some new S
   unfolding build hasNew some
   build-new zero q [] f b h k = refl
   build-new (suc n) q [] f b h k = refl
   build-new zero q (x ∷ S) f b h k = absurd (omega (arith, pfx-length (h .0), b .0))
-  build-new (suc n) q (x ∷ []) f b h k = sym (or-none (new x))
+  build-new (suc n) q (x ∷ []) f b h k = sym (or-false (new x))
   build-new (suc n) q (x ∷ y ∷ S) f b h k =
       let p = common x (y ∷ S) in
       let T = x ∷ y ∷ S in
