@@ -1,7 +1,7 @@
 -- The list of an audit at no leaf, at one, at a fork and at the root; a tree has a new leaf where one of its leaves is new; and there
 -- are no more records than leaves. Assumes nothing.
 use mathlib.Core.Path.{_≡_, refl, sym, ap, ap₂, _∙_}
-use mathlib.Core.Bool.{Bool, true, false, cond, true≢false, false≢true, _||_, or-false}
+use mathlib.Core.Bool.{Bool, true, false, cond, true≢false, false≢true, _||_, or-false, or-assoc, or-comm}
 use mathlib.Core.List.{List, [], _∷_, _++_}
 use Prim.Native.Nat.{ℕ, zero, suc, _+_, _-_, _*_, _≤_, _<_}
 use native.Mathlib.Omega.{arith}
@@ -37,13 +37,7 @@ module _ (t : ℕ) where
   -- ---- by leaves
 
   mid : (a b c : Bool) → (a || (c || b)) ≡ (c || (a || b))
-  mid true b true = refl
-  mid true b false = refl
-  mid false b c = refl
-
-  near : (a b c : Bool) → ((c || a) || b) ≡ (c || (a || b))
-  near a b true = refl
-  near a b false = refl
+  mid a b c = sym (or-assoc a c b) ∙ ap (λ x. x || b) (or-comm a c) ∙ or-assoc c a b
 
   -- each goes to one side
   sides-new : (p : Bits) (S : List Node) → All (λ x. (b : Bool) × Pfx (p ▹ b) (key x)) S → (some new (side (p ▹ false) S) || some new (side (p ▹ true) S)) ≡ some new S
@@ -57,7 +51,7 @@ module _ (t : ℕ) where
       by true w e = rw (pfx-starts (p ▹ true) (key x) w, no-starts (p ▹ false) (key x) (λ v. false≢true (pfx-one-way p false true v w)))
           (mid (some new (side (p ▹ false) S)) (some new (side (p ▹ true) S)) (new x) ∙ ap (λ b. new x || b) e)
       by false w e = rw (pfx-starts (p ▹ false) (key x) w, no-starts (p ▹ true) (key x) (λ v. true≢false (pfx-one-way p true false v w)))
-          (near (some new (side (p ▹ false) S)) (some new (side (p ▹ true) S)) (new x) ∙ ap (λ b. new x || b) e)
+          (or-assoc (new x) (some new (side (p ▹ false) S)) (some new (side (p ▹ true) S)) ∙ ap (λ b. new x || b) e)
 
   build-new : (n : ℕ) (q : Bits) (S : List Node) → Free S → All (λ y. length (key y) ≤ 256) S → All (λ y. Pfx q (key y)) S → 256 < n + length q → hasNew t (build n S) ≡ some new S
   unfolding build hasNew some
