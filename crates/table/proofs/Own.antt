@@ -21,7 +21,7 @@ use Rattle.table.proofs.Last.{last-none, last-yes, last-no}
 
 -- ---- lists with one more at the end
 
-every-snoc : {A : Type 0} (t : A → Bool) (l : List A) (x : A) → every t (l ++ (x ∷ [])) ≡ (every t l && t x)
+pub every-snoc : {A : Type 0} (t : A → Bool) (l : List A) (x : A) → every t (l ++ (x ∷ [])) ≡ (every t l && t x)
 unfolding every
 every-snoc t [] x = and-true (t x)
 every-snoc t (a ∷ l) x = ap (λ b. t a && b) (every-snoc t l x) ∙ sym (and-assoc (t a) (every t l) (t x))
@@ -34,7 +34,7 @@ every-last t l x h = every-snoc t l x ∙ by (t x) refl
     by true e = rw (all-every t l (h e))
     by false e = and-false (every t l)
 
-last-snoc : (l : List Record) (r : Record) → lastVersion (l ++ (r ∷ [])) ≡ r .version
+pub last-snoc : (l : List Record) (r : Record) → lastVersion (l ++ (r ∷ [])) ≡ r .version
 unfolding lastVersion
 last-snoc [] r = refl
 last-snoc (q ∷ []) r = refl
@@ -47,44 +47,59 @@ runs-snoc k e (q ∷ l) r h =
     let (v, a, b) = runs-snoc (suc k) (q .epoch) l r (h .2) in
     (omega arith, (b, a), omega arith)
 
+-- ---- those of the first n records that pass a test
+
+module _ (u : Record → Bool) (s : Bytes) where
+  abbrev kept : ℕ → List Record
+  kept n = keep u (recordsIn n s)
+
+  abbrev passes : ℕ → Bool
+  passes k = u (recordAt s k)
+
+  kept-suc : (n : ℕ) → kept (suc n) ≡ kept n ++ cond (passes n) (recordAt s n ∷ []) []
+  kept-suc n = ap (keep u) (records-snoc n s) ∙ keep-append u (recordsIn n s) (recordAt s n ∷ []) ∙ ap (λ l. kept n ++ l) (keep-one u (recordAt s n))
+
+  pub kept-yes : (n : ℕ) → passes n ≡ true → kept (suc n) ≡ kept n ++ (recordAt s n ∷ [])
+  kept-yes n e = kept-suc n ∙ ap (λ b. kept n ++ cond b (recordAt s n ∷ []) []) e
+
+  pub kept-no : (n : ℕ) → passes n ≡ false → kept (suc n) ≡ kept n
+  kept-no n e = kept-suc n ∙ ap (λ b. kept n ++ cond b (recordAt s n ∷ []) []) e ∙ append-nil (kept n)
+
+  pub kept-zero : kept 0 ≡ []
+  unfolding keep
+  kept-zero = ap (keep u) (records-none s)
+
+  -- there is none, or there is a last one
+  pub kept-none : (n : ℕ) → lastWhere passes n ≡ 0 → kept n ≡ []
+  kept-none zero h = kept-zero
+  kept-none (suc n) h = by (passes n) refl (kept-none n)
+    where
+      by : (b : Bool) → passes n ≡ b → (lastWhere passes n ≡ 0 → kept n ≡ []) → kept (suc n) ≡ []
+      by true e f = absurd (omega (arith, last-yes passes n e))
+      by false e f = kept-no n e ∙ f (sym (last-no passes n e) ∙ h)
+
+  pub kept-last : (n k : ℕ) → lastWhere passes n ≡ suc k → kept n ≡ kept k ++ (recordAt s k ∷ [])
+  kept-last zero k h = absurd (omega (arith, last-none passes))
+  kept-last (suc n) k h = by (passes n) refl (kept-last n k)
+    where
+      by : (b : Bool) → passes n ≡ b → (lastWhere passes n ≡ suc k → kept n ≡ kept k ++ (recordAt s k ∷ [])) → kept (suc n) ≡ kept k ++ (recordAt s k ∷ [])
+      by true e f = let q : n ≡ k = omega (arith, last-yes passes n e) in rw (← q) (kept-yes n e)
+      by false e f = kept-no n e ∙ f (sym (last-no passes n e) ∙ h)
+
 -- ---- a name's own records among the first n
 
 module _ (s name : Bytes) where
   abbrev own : ℕ → List Record
   own n = ownRecords plain name (recordsIn n s)
 
-  own-suc : (n : ℕ) → own (suc n) ≡ own n ++ cond (named s name n) (recordAt s n ∷ []) []
-  unfolding ownRecords
-  own-suc n =
-      let t : Record → Bool = λ r. sameName plain (r .name) name in
-      ap (keep t) (records-snoc n s) ∙ keep-append t (recordsIn n s) (recordAt s n ∷ []) ∙ ap (λ l. keep t (recordsIn n s) ++ l) (keep-one t (recordAt s n))
-
-  own-yes : (n : ℕ) → named s name n ≡ true → own (suc n) ≡ own n ++ (recordAt s n ∷ [])
-  own-yes n e = own-suc n ∙ ap (λ b. own n ++ cond b (recordAt s n ∷ []) []) e
-
-  own-no : (n : ℕ) → named s name n ≡ false → own (suc n) ≡ own n
-  own-no n e = own-suc n ∙ ap (λ b. own n ++ cond b (recordAt s n ∷ []) []) e ∙ append-nil (own n)
-
-  own-zero : own 0 ≡ []
-  unfolding ownRecords keep
-  own-zero = ap (keep _) (records-none s)
-
   -- there is none, or there is a last one
   pub own-none : (n : ℕ) → lastWhere (named s name) n ≡ 0 → own n ≡ []
-  own-none zero h = own-zero
-  own-none (suc n) h = by (named s name n) refl (own-none n)
-    where
-      by : (b : Bool) → named s name n ≡ b → (lastWhere (named s name) n ≡ 0 → own n ≡ []) → own (suc n) ≡ []
-      by true e f = absurd (omega (arith, last-yes (named s name) n e))
-      by false e f = own-no n e ∙ f (sym (last-no (named s name) n e) ∙ h)
+  unfolding ownRecords
+  own-none n h = kept-none (λ r. sameName plain (r .name) name) s n h
 
   pub own-last : (n k : ℕ) → lastWhere (named s name) n ≡ suc k → own n ≡ own k ++ (recordAt s k ∷ [])
-  own-last zero k h = absurd (omega (arith, last-none (named s name)))
-  own-last (suc n) k h = by (named s name n) refl (own-last n k)
-    where
-      by : (b : Bool) → named s name n ≡ b → (lastWhere (named s name) n ≡ suc k → own n ≡ own k ++ (recordAt s k ∷ [])) → own (suc n) ≡ own k ++ (recordAt s k ∷ [])
-      by true e f = let q : n ≡ k = omega (arith, last-yes (named s name) n e) in rw (← q) (own-yes n e)
-      by false e f = own-no n e ∙ f (sym (last-no (named s name) n e) ∙ h)
+  unfolding ownRecords
+  own-last n k h = kept-last (λ r. sameName plain (r .name) name) s n k h
 
   -- the version of the last, or 0
   pub version-none : (n : ℕ) → lastWhere (named s name) n ≡ 0 → 0 ≡ lastVersion (own n)

@@ -34,7 +34,7 @@ pub none-bytes : (L : Bits) → wayBytes L empty ≡ endBytes none
 unfolding wayBytes waySteps wayEnd timesBytes
 none-bytes L = refl
 
-pub one-way : (L : Bits) (x : Node) → wayOf L (one x) ≡ record { steps = 0; kind = endKind (endAt L x) }
+one-way : (L : Bits) (x : Node) → wayOf L (one x) ≡ record { steps = 0; kind = endKind (endAt L x) }
 unfolding waySteps wayEnd
 one-way L x = refl
 

@@ -51,7 +51,7 @@ off-wrote o a b c slot at k p h n l ea eb ec =
 
 -- ---- a step, and the way behind it
 
-pub step-long : (k : ℕ) (sibling : Bytes) → length sibling ≡ 32 → length (stepField .bytes (record { length = k; sibling = sibling })) ≡ 34
+step-long : (k : ℕ) (sibling : Bytes) → length sibling ≡ 32 → length (stepField .bytes (record { length = k; sibling = sibling })) ≡ 34
 step-long k sibling h = ap length (step-bytes k sibling) ∙ omega (arith, length-append (be 2 k) sibling, be-length 2 k)
 
 module _ (L : Bits) (t u : Tree) (k : ℕ) (sibling : Bytes) (size : length sibling ≡ 32) (e : wayBytes L t ≡ stepField .bytes (record { length = k; sibling = sibling }) ++ wayBytes L u) where

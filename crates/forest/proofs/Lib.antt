@@ -1,0 +1,2 @@
+-- Laws of trees grown from records.
+pub mod Standing

@@ -1,0 +1,2 @@
+-- What the contract of growing a tree cites.
+pub mod Grown

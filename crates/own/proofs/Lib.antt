@@ -1,0 +1,2 @@
+-- Laws of a name's records.
+pub mod Versions

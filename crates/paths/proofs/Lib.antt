@@ -1,0 +1,2 @@
+-- Laws of a proof's paths.
+pub mod Asked
