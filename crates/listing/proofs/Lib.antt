@@ -1,0 +1,2 @@
+-- Laws of a tree's list, for the crates above too.
+pub mod Standing

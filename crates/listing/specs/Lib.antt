@@ -1,0 +1,2 @@
+-- What the contracts of a tree's list cite.
+pub mod Listing
