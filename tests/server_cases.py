@@ -1,6 +1,6 @@
 #!/usr/bin/env python3
-"""Requests for the server's calls with their answers: those of tests/level_cases.py and tests/publish_cases.py, answered by
-tests/server.py.
+"""Requests for the server's calls with their answers: those of tests/level_cases.py, tests/publish_cases.py and tests/write_cases.py, answered by
+tests/server.py and tests/writers.py.
 
     python3 tests/server_cases.py CALL > tests/vectors-own/CALL.txt
 
@@ -13,7 +13,11 @@ sys.dont_write_bytecode = True
 import level_cases
 import publish_cases
 import server
-from answer import word
+import write_cases
+import writers
+from answer import line, word
+
+CALLS = {**server.CALLS, **writers.CALLS}
 
 HEADINGS = {
     "tree_root": ["leaves = root", "leaves: label 32, commitment 32, epoch 4 for each, one behind the other, in any order"],
@@ -30,13 +34,13 @@ def answered(left_out, *groups):
     for group in groups:
         for call, values in group():
             if call not in left_out:
-                yield call, values, server.answer(call, values)
+                yield call, values, line(CALLS[call], *values)
 
 
 def split(left_out):
     """(call, values, answer) of every case but those of the calls left out: those of the sample, and the longer ones."""
     parts = [], []
-    for case in answered(left_out, level_cases.given, publish_cases.given):
+    for case in answered(left_out, level_cases.given, publish_cases.given, write_cases.given):
         parts[SAMPLED < sum(len(x) for x in case[1] if isinstance(x, bytes))].append(case)
     return parts
 
@@ -48,7 +52,7 @@ def cases(left_out=()):
 
 def longest(left_out=()):
     """The longer cases, and the largest."""
-    return itertools.chain(split(left_out)[1], answered(left_out, level_cases.at_bounds, publish_cases.at_bounds))
+    return itertools.chain(split(left_out)[1], answered(left_out, level_cases.at_bounds, publish_cases.at_bounds, write_cases.at_bounds))
 
 
 def main():
@@ -57,8 +61,8 @@ def main():
     first, *more = HEADINGS[sys.argv[1]]
     for text in [first + "  (or: refused N)", *more]:
         print("#", text)
-    for call, values, line in answered(HEADINGS.keys() - sys.argv[1:], level_cases.examples, publish_cases.examples):
-        print(*map(word, values), "=", line)
+    for _, values, said in answered(HEADINGS.keys() - sys.argv[1:], level_cases.examples, publish_cases.examples):
+        print(*map(word, values), "=", said)
 
 
 if __name__ == "__main__":
