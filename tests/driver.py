@@ -21,10 +21,13 @@ CALLS = {
     "tree_path": (9, [BYTES, BYTES, 2]),
     "start": (10, [BYTES]),
     "publish": (11, [BYTES, BYTES, 4, 4, BYTES]),
+    "write_lookup": (12, [BYTES, BYTES, 4, 4, BYTES, 4, 4]),
+    "write_history": (13, [BYTES, BYTES, 4, 4, BYTES, 4, 4]),
+    "write_audit": (14, [BYTES, BYTES, 4, 4, 4, 4]),
 }
 
 # calls that the driver program does not have yet: its sample, its vectors and its longest requests leave them out
-NOT_YET = {"tree_root", "tree_path", "start", "publish"}
+NOT_YET = {"write_lookup", "write_history", "write_audit"}
 
 
 def be(n, x):

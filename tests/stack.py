@@ -1,9 +1,10 @@
 #!/usr/bin/env python3
 """Prints the stack that functions of the driver program take, with all that they call, from the program's own instructions.
 
-A function's frame is what it pushes, what it subtracts from the stack pointer, and its return address. Its stack is its frame and the
-largest stack of a function that it calls. A function that calls itself is counted at the depth that its contract bounds: the recursion over
-an audit's records at 256, that over a number's decimal digits at 10. Run `rt check driver` first; `objdump` must be on the path.
+A function's frame is what it pushes, what it subtracts from the stack pointer, and its return address. A large frame is taken page by page,
+in a loop whose end is reckoned in the register r11 first. A function's stack is its frame and the largest stack of a function that it calls.
+A function that calls itself is counted at the depth that its contract bounds: a recursion over the bits of labels at 256, with one call more
+where the last only ends it, that over a number's decimal digits at 10. Run `rt check driver` first; `objdump` must be on the path.
 """
 import os
 import re
@@ -13,7 +14,15 @@ import sys
 ROOT = os.path.dirname(os.path.dirname(os.path.abspath(__file__)))
 text = subprocess.run(["objdump", "-d", "--no-show-raw-insn", os.path.join(ROOT, "target/bin/driver")], capture_output=True, text=True, check=True).stdout
 
-DEPTHS = {"audit_root::below": 256, "line::decimal": 10}
+DEPTHS = {
+    "audit_root::below": 256,
+    "line::decimal": 10,
+    "arrange::sort": 257,
+    "tree::below": 256,
+    "tree_path::walk::way_below": 256,
+    "tree_path::write::write_below": 256,
+}
+PAGE = 4096
 
 frames, calls, name = {}, {}, None
 for line in text.split("\n"):
@@ -27,6 +36,10 @@ for line in text.split("\n"):
         sub = re.search(r"\tsub +\$0x([0-9a-f]+),%rsp", line)
         if sub:
             frames[name] += int(sub.group(1), 16)
+        pages = re.search(r"\tsub +\$0x([0-9a-f]+),%r11", line)
+        if pages:
+            # the loop's own step, a page, is counted above
+            frames[name] += int(pages.group(1), 16) - PAGE
         call = re.search(r"\t(?:call|jmp) +[0-9a-f]+ <([^+>]*)>", line)
         if call:
             calls[name].add(call.group(1))

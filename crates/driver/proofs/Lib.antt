@@ -1,2 +1,3 @@
--- Laws of text.
+-- Laws of text, and of what is written.
 pub mod Spelt
+pub mod Room

@@ -1,2 +1,3 @@
 -- What the contracts cite.
 pub mod Text
+pub mod Space

@@ -1,7 +1,9 @@
 // The driver, through which tests put requests to the functions of the other crates: docs/DRIVER.md has the format. It reads requests
-// from standard input until that ends, and writes a line for each. A call is one function here, which reads its fields and answers a
-// whole request, and one arm of `called`.
+// from standard input until that ends, and writes a line for each. A call is one function, which reads its fields and answers a whole
+// request, and one arm of `called`.
 mod print;
+mod server;
+mod space;
 
 use paper::AuditAnswer;
 use paper::HistoryAnswer;
@@ -10,38 +12,42 @@ use print::print_bytes;
 use print::print_number;
 use print::print_refused;
 use print::print_text;
+use server::call_publish;
+use server::call_start;
+use server::call_tree_path;
+use server::call_tree_root;
+use space::blank;
+use space::read_at;
 use wire::Next;
 use wire::Request;
-
-// 64 zeros, for a label and more.
-fn short_buffer() -> [u8; 64] {
-    [0; 64]
-}
+ghost use Rattle.driver.specs.Space.{Spacious};
 
 // 1: the digest of data of up to 65,536 bytes.
-fn call_sha256(r: Request) -> Request {
-    let mut data = io::large_buffer();
-    let f = wire::read_field(r, &mut data);
+fn call_sha256(r: Request, space: &mut [u8]) -> Request
+    requires { ⌜ Spacious (now space) ⌝ }
+{
+    let f = read_at(r, space, 0, 65536);
     let n = f.length;
     let rest = f.rest;
     if wire::whole(rest) {
-        print_bytes(&sha256::sha256(&data[..n]));
+        print_bytes(&sha256::sha256(&space[0..n]));
         print_text(b"\n");
     }
     rest
 }
 
-// 2: the first difference of two labels.
-fn call_first_difference(r: Request) -> Request {
-    let mut a = short_buffer();
-    let mut b = short_buffer();
-    let f = wire::read_field(r, &mut a);
-    let g = wire::read_field(f.rest, &mut b);
+// 2: the first difference of two labels, each of up to 64 bytes.
+fn call_first_difference(r: Request, space: &mut [u8]) -> Request
+    requires { ⌜ Spacious (now space) ⌝ }
+{
+    let f = read_at(r, space, 0, 64);
+    let g = read_at(f.rest, space, 64, 64);
     let m = f.length;
-    let n = g.length;
+    let n = 64 + g.length;
     let rest = g.rest;
     if wire::whole(rest) {
-        print_number(bits::first_difference(&a[..m], &b[..n]) as u64);
+        let all = &space[..];
+        print_number(bits::first_difference(&all[0..m], &all[64..n]) as u64);
         print_text(b"\n");
     }
     rest
@@ -57,16 +63,6 @@ fn call_history_paths(r: Request) -> Request {
         print_text(b"\n");
     }
     rest
-}
-
-// 256 zeros, for a head or a name and more.
-fn argument_buffer() -> [u8; 256] {
-    [0; 256]
-}
-
-// Zeros for a proof. No audit proof in layout is longer than 3,244,246 bytes.
-fn proof_buffer() -> [u8; 3276800] {
-    [0; 3276800]
 }
 
 // Three numbers with a blank between them.
@@ -141,37 +137,33 @@ fn answer_check(call: u8, head: &[u8], name: &[u8], proof: &[u8]) {
     }
 }
 
-// The checkers, which share the buffer of their proof: a head, a name or a second head, and a proof.
-fn call_check(call: u8, r: Request) -> Request {
-    let mut head = argument_buffer();
-    let mut name = argument_buffer();
-    let mut proof = proof_buffer();
-    let f = wire::read_field(r, &mut head);
-    let g = wire::read_field(f.rest, &mut name);
-    let h = wire::read_field(g.rest, &mut proof);
+// The checkers: a head, a name or a second head, each of up to 256 bytes, and a proof.
+fn call_check(call: u8, r: Request, space: &mut [u8]) -> Request
+    requires { ⌜ Spacious (now space) ⌝ }
+{
+    let f = read_at(r, space, 0, 256);
+    let g = read_at(f.rest, space, 256, 256);
+    let h = read_at(g.rest, space, 512, 3276800);
     let k = f.length;
-    let m = g.length;
-    let n = h.length;
+    let m = 256 + g.length;
+    let n = 512 + h.length;
     let rest = h.rest;
     if wire::whole(rest) {
-        answer_check(call, &head[..k], &name[..m], &proof[..n]);
+        let all = &space[..];
+        answer_check(call, &all[0..k], &all[256..m], &all[512..n]);
     }
     rest
 }
 
-// Zeros for the input of the checking program, and for more than it takes.
-fn input_buffer() -> [u8; 131072] {
-    [0; 131072]
-}
-
-// 7: the line of the checking program.
-fn call_program(r: Request) -> Request {
-    let mut input = input_buffer();
-    let f = wire::read_field(r, &mut input);
+// 7: the line of the checking program, whose input is up to 131,072 bytes, more than it takes.
+fn call_program(r: Request, space: &mut [u8]) -> Request
+    requires { ⌜ Spacious (now space) ⌝ }
+{
+    let f = read_at(r, space, 0, 131072);
     let n = f.length;
     let rest = f.rest;
     if wire::whole(rest) {
-        let text = line::program_line(&input[..n]);
+        let text = line::program_line(&space[0..n]);
         let bytes = text.bytes;
         let length = text.length;
         print_text(&bytes[..length]);
@@ -180,23 +172,31 @@ fn call_program(r: Request) -> Request {
 }
 
 // The rest of the request once the call has read its fields: nothing, where it answered.
-fn called(call: u8, r: Request) -> Request {
+fn called(call: u8, r: Request, space: &mut [u8]) -> Request
+    requires { ⌜ Spacious (now space) ⌝ }
+{
     match call {
-        1 => call_sha256(r),
-        2 => call_first_difference(r),
+        1 => call_sha256(r, space),
+        2 => call_first_difference(r, space),
         3 => call_history_paths(r),
-        4 | 5 | 6 => call_check(call, r),
-        7 => call_program(r),
+        4 | 5 | 6 => call_check(call, r, space),
+        7 => call_program(r, space),
+        8 => call_tree_root(r, space),
+        9 => call_tree_path(r, space),
+        10 => call_start(r, space),
+        11 => call_publish(r, space),
         _ => wire::spoilt(r),
     }
 }
 
 // Answers a request, and says whether there was one.
-fn turn() -> bool {
+fn turn(space: &mut [u8]) -> bool
+    requires { ⌜ Spacious (now space) ⌝ }
+{
     let Next::Call(call, r) = wire::next_request() else {
         return false;
     };
-    let rest = called(call, r);
+    let rest = called(call, r, space);
     if !wire::whole(rest) {
         print_text(b"bad\n");
         wire::skip_rest(rest);
@@ -206,8 +206,9 @@ fn turn() -> bool {
 
 // A proved loop has to end, and nothing says that the input does: so it counts down, from a number that no run uses up.
 fn main() {
+    let mut space = blank();
     let mut turns = u64::MAX;
-    while 0 < turns && turn() {
+    while 0 < turns && turn(&mut space) {
         turns -= 1;
     }
 }

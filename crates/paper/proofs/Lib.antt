@@ -39,6 +39,7 @@ pub mod Unread
 pub mod Changes
 pub mod HeadChain
 pub mod Demand2
+pub mod Private
 pub mod Arrow
 pub mod Rows
 pub mod Marker

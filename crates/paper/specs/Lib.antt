@@ -17,6 +17,7 @@ pub mod Audit
 pub mod Table
 pub mod Publish
 pub mod Write
+pub mod Private
 pub mod Left
 pub mod HeadChain
 pub mod Effect

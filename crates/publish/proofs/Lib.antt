@@ -1,6 +1,5 @@
 -- Laws of publishing.
 pub mod Tests
 pub mod Made
-pub mod Started
 pub mod Prepared
 pub mod Weighing

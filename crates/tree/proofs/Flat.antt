@@ -60,7 +60,7 @@ build-flat (suc n) q (x ∷ y ∷ S) f b h k ne =
     build-flat n (p ▹ d) (side (p ▹ d) T) (side-free _ T f) (side-all _ _ T b) (side-below _ T) (omega (arith, length-snoc p d, pfx-length (common-most q x (y ∷ S) h))) (sides-full x y S f d) in
     omega (arith, fork-size p (build n (side (p ▹ false) T)) (build n (side (p ▹ true) T)), half false, half true, sides-all p T (in-all _ T (common-next x y S f)))
 
-flat-size : (n from : ℕ) (s : Bytes) → Sorted n s → Range from (leavesIn n s) → 1 ≤ from → 1 ≤ n → length (flat (build 256 (leavesIn n s))) ≡ (n - 1) * 64
+pub flat-size : (n from : ℕ) (s : Bytes) → Sorted n s → Range from (leavesIn n s) → 1 ≤ from → 1 ≤ n → length (flat (build 256 (leavesIn n s))) ≡ (n - 1) * 64
 flat-size n from s w r l h =
     let S = leavesIn n s in
     let short = long-short S (leaves-long n s (omega (arith, w .size))) in

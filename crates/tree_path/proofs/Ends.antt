@@ -70,10 +70,13 @@ module _ (s : Bytes) (h : 68 ≤ length s) (w : Bytewise s) where
   this-leaf : endBytes (this (take 32 (drop 32 s)) (number (take 4 (drop 64 s)))) ≡ 0 ∷ take 36 (drop 32 s)
   this-leaf = this-bytes _ _ ∙ ap (λ x. 0 ∷ x) fields
 
-  other-leaf : endBytes (other (bitsOf (take 32 s)) (take 32 (drop 32 s)) (number (take 4 (drop 64 s)))) ≡ 1 ∷ take 68 s
-  other-leaf =
+  pub leaf-fields : pack wide (bitsOf (take 32 s)) ++ (take 32 (drop 32 s) ++ be 4 (number (take 4 (drop 64 s)))) ≡ take 68 s
+  leaf-fields =
       let e : pack wide (bitsOf (take 32 s)) ≡ take 32 s = ap (λ n. pack n (bitsOf (take 32 s))) (sym (length-take-le 32 s (omega arith))) ∙ pack-bitsOf (take 32 s) (all-take _ 32 s w) in
-      other-bytes _ _ _ ∙ ap₂ (λ x y. 1 ∷ (x ++ y)) e fields ∙ ap (λ x. 1 ∷ x) (sym (take-add 32 36 s))
+      ap₂ (λ x y. x ++ y) e fields ∙ sym (take-add 32 36 s)
+
+  other-leaf : endBytes (other (bitsOf (take 32 s)) (take 32 (drop 32 s)) (number (take 4 (drop 64 s)))) ≡ 1 ∷ take 68 s
+  other-leaf = other-bytes _ _ _ ∙ ap (λ x. 1 ∷ x) leaf-fields
 
   pub leaf-this : (L : Bits) → sameBits (key (entryLeaf s)) L ≡ true → endBytes (endAt L (entryLeaf s)) ≡ 0 ∷ take 36 (drop 32 s)
   unfolding endAt

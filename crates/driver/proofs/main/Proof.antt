@@ -1,16 +1,23 @@
--- `driver::main` is safe and ends: the number of turns that are left falls. Assumes nothing.
+-- `driver::main` is safe and ends: the space keeps its length, and the number of turns that are left falls. Assumes nothing.
 use borrow.Author.Needs.{needs}
+use Rattle.driver.specs.Space.{Spacious}
 use Rattle.driver.proofs.main.Statement.{statement}
 use Rattle.driver.proofs.main.Tie as tie
 
 abbrev Inv-loop : tie.InvT-loop
-Inv-loop turns₀ turns = Unit {0}
+Inv-loop space₀ turns₀ space turns = Spacious space
 
 abbrev μ-loop : tie.MeasureT-loop
-μ-loop turns₀ turns = turns
+μ-loop space₀ turns₀ space turns = turns
+
+blank-requires : tie.Need-blank-requires Inv-loop μ-loop
+blank-requires c κs = search needs
 
 loop-holds : tie.Need-loop-holds Inv-loop μ-loop
 loop-holds c = search needs
+
+slice-aggregate-turn : tie.Need-slice-aggregate-turn Inv-loop μ-loop
+slice-aggregate-turn c = search needs
 
 turn-requires : tie.Need-turn-requires Inv-loop μ-loop
 turn-requires c κs = search needs
@@ -36,7 +43,9 @@ main-spec =
     (tie.spec
     Inv-loop
     μ-loop
+    blank-requires
     loop-holds
+    slice-aggregate-turn
     turn-requires
     sub-turns
     loop-less

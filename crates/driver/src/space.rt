@@ -1,0 +1,20 @@
+// The space that `main` lends to each call in turn, in which the call's fields lie one behind the other.
+use wire::Field;
+use wire::Request;
+ghost use Prim.Native.Nat.{_+_, _≤_};
+ghost use lib.ListN.{length};
+
+// Room for the fields of any call. The longest are those of an audit: two heads of up to 256 bytes, and a proof; none in layout is longer
+// than 3,244,246 bytes.
+pub(crate) fn blank() -> [u8; 3277312] {
+    [0; 3277312]
+}
+
+// Reads a field of up to so many bytes into the space, from place `at` on.
+pub(crate) fn read_at(r: Request, space: &mut [u8], at: usize, most: usize) -> Field
+    requires { ⌜ at + most ≤ length (now space) ⌝ }
+    ensures { λ f. ⌜ (f .length ≤ most) × (at + f .length ≤ length (now (space .exit))) ⌝ }
+{
+    let after = at + most;
+    wire::read_field(r, &mut space[at..after])
+}

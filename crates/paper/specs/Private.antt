@@ -1,0 +1,37 @@
+-- "A lookup's version, epoch, key and opening depend only on that name's own records and the epoch asked; head and path bytes and
+-- refusals may depend on others."
+use mathlib.Core.Path.{_≡_}
+use mathlib.Core.List.{List, [], _∷_}
+use Prim.Native.Nat.{ℕ}
+use Rattle.paper.specs.Bytes.{Bytes, pasted}
+use Rattle.paper.specs.Labelling.{Labelling}
+use Rattle.paper.specs.Path.{Path, epochOf}
+use Rattle.paper.specs.Shows.{Item, Proof}
+use Rattle.paper.specs.Lookup.{lookupField}
+use Rattle.paper.specs.Table.{Record, byEpoch, ownRecords}
+use Rattle.paper.specs.Write.{Written, itemOf}
+
+-- what a lookup proof says of a name: its version, key and opening, and the epoch that its version's leaf bears; version 0 has none
+pub record Said : Type 0 where
+  pub version : ℕ
+  pub epoch : ℕ
+  pub items : List Item
+
+unfoldable pub firstEpoch : List Path → ℕ
+firstEpoch [] = 0
+firstEpoch (p ∷ ps) = epochOf (p .end)
+
+abbrev pub saidBy : Proof → Said
+saidBy p = record { version = p .number; epoch = firstEpoch (p .paths); items = p .items }
+
+-- what a name's own records say: the last one's version, epoch, key and opening
+unfoldable pub lastSays : List Record → Said
+lastSays [] = record { version = 0; epoch = 0; items = [] }
+lastSays (r ∷ []) = record { version = r .version; epoch = r .epoch; items = itemOf r ∷ [] }
+lastSays (r ∷ q ∷ rs) = lastSays (q ∷ rs)
+
+-- a writer left a lookup proof that says just this
+pub record Says (out : Bytes) (w : Written) (says : Said) : Type 0 where
+  pub proof : Proof
+  pub left : w .out ≡ pasted out 0 (lookupField .bytes proof)
+  pub said : saidBy proof ≡ says

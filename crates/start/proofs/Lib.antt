@@ -1,0 +1,2 @@
+-- Laws of starting a directory.
+pub mod Started

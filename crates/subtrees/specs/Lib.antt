@@ -1,0 +1,2 @@
+-- What the contracts of an audit's list cite.
+pub mod Listed

@@ -1,0 +1,85 @@
+"""Requests for the three writers: each name and epoch of directories that were published, outputs of the right length and around it, and the
+tables and states of tests/publish_cases.py that are out of bounds or out of shape."""
+import publish_cases
+import server
+import writers
+from answer import Refused
+from publish_cases import batch, run, update
+
+ROOM = 100000  # more than any proof here has
+LAST = 2**32 - 1
+
+
+def left(steps):
+    """(records, heads, count, epoch) that the last of the steps left."""
+    tables = None
+    for call, values in steps:
+        if call == "publish":
+            try:
+                count, epoch, records, heads = server.publish(*values)
+                tables = [records, heads, count, epoch]
+            except Refused:
+                pass
+    return tables
+
+
+def directories():
+    names = [b"ada", b"bo", b"!", b"~" * 64, b"eve"]
+    yield left(run(0, 3, [b"", b""])), [b"ada"]
+    steps = [names[:2], [], names[:1], names[1:4], names[:1], names[:3], [], names[:1]]
+    yield left(run(14, 10, [batch(*x) for x in steps])), names
+    yield left(run(9, 11, [batch(b"ada") for _ in range(9)])), [b"ada", b"bo"]
+    long = b"n" * 64
+    yield left(run(3, 4, [update(long, b"k" * 64, b"\xff" * 32), update(long, b"k")])), [long, long[1:]]
+
+
+def proofs(tables, names):
+    """Every proof of a directory, and of epochs that it does not have."""
+    for at in [*range(tables[3] + 2), LAST]:
+        for name in names + [b"zed"]:
+            yield "write_lookup", [*tables, name, at, ROOM]
+            yield "write_history", [*tables, name, at, ROOM]
+        yield "write_audit", [*tables, at, ROOM]
+
+
+def rooms(tables, name):
+    """Outputs that are empty, one byte short, and just long enough."""
+    at = tables[3]
+    for call, fields in [("write_lookup", [name, at]), ("write_history", [name, at]), ("write_audit", [at])]:
+        size = len(writers.CALLS[call](*tables, *fields, ROOM)[0])
+        for room in (0, size - 1, size, size + 1):
+            yield call, [*tables, *fields, room]
+
+
+def bad_names(tables):
+    for name in (b"", b"a b", b"\x7f", b"n" * 65):
+        yield "write_lookup", [*tables, name, 1, ROOM]
+        yield "write_history", [*tables, name, 1, ROOM]
+
+
+def other_tables():
+    """Tables and states of publishing's cases, one in seven of them."""
+    groups = (publish_cases.lengths, publish_cases.fields, publish_cases.tables, publish_cases.states, publish_cases.torn)
+    given = [values for group in groups for call, values in group() if call == "publish"]
+    for i, (records, heads, count, epoch, _) in enumerate(given[::7]):
+        call = ("write_lookup", "write_history", "write_audit")[i % 3]
+        yield call, [records, heads, count, epoch, *([b"ada"] if call != "write_audit" else []), min(epoch, 1), ROOM]
+
+
+def given():
+    for tables, names in directories():
+        yield from proofs(tables, names)
+        yield from rooms(tables, names[0])
+        yield from bad_names(tables)
+    yield from other_tables()
+
+
+def at_bounds():
+    """A history of 1,023 versions, and a table of 4,096 records."""
+    yield "write_history", [publish_cases.VERSIONS, publish_cases.HEADS, 1023, 1023, b"ada", 1023, 10**6]
+    yield "write_lookup", [publish_cases.VERSIONS, publish_cases.HEADS, 1023, 1023, b"ada", 1023, 10**6]
+    yield "write_audit", [publish_cases.VERSIONS, publish_cases.HEADS, 1023, 1023, 1023, 10**6]
+    records = publish_cases.table([(b"n%d" % i, 1, 1) for i in range(4096)], 4096)
+    yield "write_lookup", [records, bytes(64), 4096, 1, b"n7", 1, ROOM]
+    yield "write_history", [records, bytes(64), 4096, 1, b"n7", 1, ROOM]
+    yield "write_audit", [records, bytes(64), 4096, 1, 1, 10**6]
