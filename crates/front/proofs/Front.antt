@@ -14,7 +14,7 @@ use Rattle.paper.proofs.Bytes.{be-length}
 use Rattle.tree_path.proofs.Writing.{laid-next}
 use Rattle.front.specs.Front.{frontBytes, itemBytes}
 
-head-parts : (h : Head) → headField .bytes h ≡ be 4 (h .epoch) ++ (h .previous ++ (h .all ++ h .old))
+pub head-parts : (h : Head) → headField .bytes h ≡ be 4 (h .epoch) ++ (h .previous ++ (h .all ++ h .old))
 unfolding view seq within block
 head-parts h = refl
 

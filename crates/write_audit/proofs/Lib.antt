@@ -1,0 +1,4 @@
+-- Laws of writing audit proofs.
+pub mod Order
+pub mod Bytes
+pub mod Same

@@ -1,0 +1,95 @@
+-- The audit writer: what remains of it as tests pass, and its proof out of the roots of the epoch before and the trees of the epoch.
+use mathlib.Core.Path.{_≡_}
+use mathlib.Core.Bool.{Bool, true, _&&_}
+use mathlib.Core.List.{List, [], _∷_}
+use Prim.Native.Nat.{ℕ, _-_, _*_, _≤_}
+use lib.Dec.{leb}
+use lib.ListN.{length}
+use Rattle.paper.specs.Numbers.{wide, recordsMost, auditMost, CLASH, ROOM}
+use Rattle.paper.specs.Bytes.{Bytes, pasted}
+use Rattle.paper.specs.Strings.{Node, Head}
+use Rattle.paper.specs.Labelling.{plain}
+use Rattle.paper.specs.Tree.{root, rootDigest}
+use Rattle.paper.specs.Verdict.{test, verdict}
+use Rattle.paper.specs.Audit.{Audit, auditField}
+use Rattle.paper.specs.Table.{Record, recordsWithin, headsWithin, previousHead, allAt, oldAt, distinct}
+use Rattle.paper.specs.Write.{Written, belowRoot, auditProof}
+use Rattle.paper.specs.declared.State.{State}
+use Rattle.paper.specs.declared.WriteAnswer.the-variants as W
+use Rattle.record.specs.Places.{recordsIn}
+use Rattle.table.specs.Shape.{Shaped}
+use Rattle.tree.specs.Stored.{Sorted, Stored}
+use Rattle.forest.specs.declared.Grown.{Grown}
+use Rattle.write_audit.specs.declared.roots.Roots.{Roots}
+use Rattle.write_audit.specs.declared.roots.Before.{Before}
+
+-- "1 INPUT", "or an audit writer's new epoch is 0"
+unfoldable pub inputGood : Bytes → Bytes → ℕ → Bool
+inputGood records heads t = recordsWithin records && (headsWithin heads && leb 1 t)
+
+-- no two leaves of a tree over A share a label, and none of a tree over O
+abbrev pub bothClear : List Node → List Node → Bool
+bothClear A O = distinct A && distinct O
+
+abbrev pub rootsOf : List Node → List Node → Roots
+rootsOf A O = record { all = rootDigest A; old = rootDigest O }
+
+-- the answer for an epoch whose trees are not kept
+pub record Rooted (A O : List Node) (r : Before) : Type 0 where
+  pub is : r .clear ≡ bothClear A O
+  pub roots : r .clear ≡ true → r .roots ≡ rootsOf A O
+
+-- the head of epoch t over two roots
+abbrev pub headWith : Bytes → ℕ → Roots → Head
+headWith heads t r = record { epoch = t; previous = previousHead heads t; all = r .all; old = r .old }
+
+-- the step into epoch t: from trees with these roots to the trees over A and O
+abbrev pub auditWith : Bytes → ℕ → Roots → List Node → List Node → Audit
+auditWith heads t b A O = record { before = headWith heads (t - 1) b; after = headWith heads t (rootsOf A O); all = belowRoot t (root A); old = belowRoot t (root O) }
+
+unfoldable pub bytesWith : Bytes → ℕ → Roots → List Node → List Node → Bytes
+bytesWith heads t b A O = auditField .bytes (auditWith heads t b A O)
+
+-- a proof is written if its test of 7 passes and it has room
+unfoldable pub weighed : State → Bytes → Bool → Bytes → Written
+weighed state out clear proof =
+    verdict (λ n. record { answer = W.Refused n state; out = out }) (record { answer = W.Written (length proof) state; out = pasted out 0 proof }) (test CLASH clear ∷ test ROOM (leb (length proof) (length out)) ∷ [])
+
+-- "two leaves of a needed tree share a label": not so
+abbrev pub clearAt : ℕ → List Record → Bool
+clearAt t rs = distinct (allAt plain (t - 1) rs) && (distinct (oldAt plain (t - 1) rs) && bothClear (allAt plain t rs) (oldAt plain t rs))
+
+module _ (records heads : Bytes) (state : State) (out : Bytes) (t : ℕ) where
+  abbrev pub rs : List Record
+  rs = recordsIn (state .count) records
+
+  -- of tables in shape
+  abbrev pub restAt : Written
+  restAt = weighed state out (clearAt t rs) (auditField .bytes (auditProof plain heads t rs))
+
+  -- where the trees of the epoch before are clear and have these roots
+  abbrev pub restFrom : Roots → Written
+  restFrom b = weighed state out (bothClear (allAt plain t rs) (oldAt plain t rs)) (bytesWith heads t b (allAt plain t rs) (oldAt plain t rs))
+
+-- the tests 1, 11 and 10 have passed
+pub record Sound (records heads : Bytes) (state : State) (t : ℕ) : Type 0 where
+  pub shaped : Shaped records heads (state .count) (state .epoch)
+  pub later : 1 ≤ t
+  pub by : t ≤ state .epoch
+  pub few : state .count ≤ recordsMost
+
+-- the head table reaches to the epoch before, whose roots are digests
+pub record Step (heads : Bytes) (t : ℕ) (b : Roots) : Type 0 where
+  pub later : 1 ≤ t
+  pub reach : t * wide ≤ length heads
+  pub all : length (b .all) ≡ wide
+  pub old : length (b .old) ≡ wide
+
+-- both trees are stored
+pub record Kept (all allSlots : Bytes) (a : Grown) (old oldSlots : Bytes) (o : Grown) : Type 0 where
+  pub first : Sorted (a .leaves) all
+  pub second : Sorted (o .leaves) old
+  pub firstStored : Stored (a .leaves) all allSlots (a .sides)
+  pub secondStored : Stored (o .leaves) old oldSlots (o .sides)
+  pub firstFew : a .leaves ≤ auditMost
+  pub secondFew : o .leaves ≤ auditMost

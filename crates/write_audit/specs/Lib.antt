@@ -1,0 +1,2 @@
+-- What the contracts of writing audit proofs cite.
+pub mod Audited

@@ -1,0 +1,52 @@
+// "8 ROOM": the lists are counted, and the proof is written if it has room.
+use crate::lay::lay;
+use crate::roots::Roots;
+use forest::Grown;
+use paper::State;
+use paper::WriteAnswer;
+use subtrees::list_length;
+ghost use mathlib.Core.Path.{_≡_};
+ghost use mathlib.Core.Bool.{true};
+ghost use Rattle.paper.specs.Level.{leavesIn};
+ghost use Rattle.write_audit.specs.Audited.{bytesWith, weighed, Step, Kept};
+
+// A header of 6 bytes, two heads of 100, two counts of 4, and records of 99 bytes.
+pub(crate) fn write_from(
+    heads: &[u8],
+    state: State,
+    epoch: u32,
+    before: Roots,
+    all: &[u8],
+    all_slots: &[u8],
+    a: Grown,
+    old: &[u8],
+    old_slots: &[u8],
+    o: Grown,
+    out: &mut [u8],
+) -> WriteAnswer
+    requires { ⌜ Step (now heads) epoch before × Kept (now all) (now «all_slots») a (now old) (now «old_slots») o ⌝ }
+    ensures { λ r. ⌜ record { answer = r; out = now (out .exit) } ≡ weighed state (now (out .entry)) true (bytesWith (now (heads .entry)) epoch before (leavesIn (a .leaves) (now (all .entry))) (leavesIn (o .leaves) (now (old .entry)))) ⌝ }
+{
+    let first = list_length(all, a.leaves, epoch);
+    let second = list_length(old, o.leaves, epoch);
+    let size = 214 + (first + second) * 99;
+    if out.len() < size {
+        return WriteAnswer::Refused { number: 8, state };
+    }
+    lay(
+        heads,
+        epoch,
+        before,
+        all,
+        all_slots,
+        a,
+        old,
+        old_slots,
+        o,
+        out,
+    );
+    WriteAnswer::Written {
+        length: size,
+        state,
+    }
+}
