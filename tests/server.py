@@ -13,7 +13,7 @@ import sys
 
 sys.dont_write_bytecode = True
 import vector_files
-from answer import CLASH, FULL, INPUT, TABLE, TWICE, line, need
+from answer import CLASH, FULL, INPUT, TABLE, TWICE, need
 from directory import ZERO, Tree, be, head_opening, is_name, leaves_at, sha
 
 ENTRY = struct.Struct(">32s32sI")  # label, commitment, epoch
@@ -126,16 +126,5 @@ def publish(records, heads, count, epoch, batch):
 CALLS = {"tree_root": tree_root, "tree_path": tree_path, "start": start, "publish": publish}
 
 
-def answer(call, values):
-    return line(CALLS[call], *values)
-
-
-def main():
-    if len(sys.argv) != 2:
-        sys.exit(__doc__)
-    same = vector_files.agree(sys.argv[1], CALLS, "tests/server.py", lambda call, cases: [answer(call, values) for values in cases])
-    sys.exit(0 if same else 1)
-
-
 if __name__ == "__main__":
-    main()
+    vector_files.main(CALLS, "tests/server.py", __doc__)

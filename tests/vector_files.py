@@ -6,6 +6,7 @@ bytes; numbers are decimal.
 import os
 import sys
 
+from answer import line as said
 from driver import BYTES, CALLS
 
 
@@ -48,3 +49,11 @@ def agree(folder, calls, who, answers):
             print(f"skipped: {call}, a call that {who} does not have")
     results = [compare(folder, call, who, answers) for call in found if call in calls]
     return bool(results) and all(results)
+
+
+def main(calls, who, usage):
+    """The command `who DIR`: exits with 0 if the calls, which give their values or raise Refused, answer each line of the folder's files."""
+    if len(sys.argv) != 2:
+        sys.exit(usage)
+    same = agree(sys.argv[1], calls, who, lambda call, cases: [said(calls[call], *values) for values in cases])
+    sys.exit(0 if same else 1)

@@ -10,7 +10,7 @@ import sys
 
 sys.dont_write_bytecode = True
 import vector_files
-from answer import EPOCH, INPUT, ROOM, TABLE, line, need
+from answer import EPOCH, INPUT, ROOM, TABLE, need
 from directory import Directory, is_name, leaves_at
 from server import RECORD, need_distinct, read_table, within
 
@@ -48,16 +48,5 @@ def write_audit(records, heads, count, epoch, at, room):
 CALLS = {"write_lookup": write_lookup, "write_history": write_history, "write_audit": write_audit}
 
 
-def answer(call, values):
-    return line(CALLS[call], *values)
-
-
-def main():
-    if len(sys.argv) != 2:
-        sys.exit(__doc__)
-    same = vector_files.agree(sys.argv[1], CALLS, "tests/writers.py", lambda call, cases: [answer(call, values) for values in cases])
-    sys.exit(0 if same else 1)
-
-
 if __name__ == "__main__":
-    main()
+    vector_files.main(CALLS, "tests/writers.py", __doc__)
