@@ -7,24 +7,12 @@ use Prim.Native.Nat.{ℕ, _<_}
 use native.Mathlib.Omega.{arith}
 use Rattle.paper.specs.Lists.{_∈_, All}
 use Rattle.paper.specs.Verdict.{Test, verdict}
+pub use Rattle.paper.specs.Verdict.{Hold, FirstFails}
 use Rattle.paper.proofs.Lists.{all-in, in-right}
-
-abbrev pub Hold : List Test → Type 0
-Hold = All (λ t. t .holds ≡ true)
 
 -- every test has a number that says no
 abbrev pub Numbered : List Test → Type 0
 Numbered = All (λ t. 0 < t .number)
-
--- the first of the tests that fails, behind those that hold
-pub record FirstFails (ts : List Test) (n : ℕ) : Type 0 where
-  pub passed : List Test
-  pub failed : Test
-  pub rest : List Test
-  pub split : passed ++ (failed ∷ rest) ≡ ts
-  pub hold : Hold passed
-  pub fails : failed .holds ≡ false
-  pub number : failed .number ≡ n
 
 module _ {A : Type 0} (refuse : ℕ → A) (answer : A) where
   -- all hold, and it is the answer; or one is the first that fails, and it is the refusal with that number

@@ -14,6 +14,7 @@ pub mod Shows
 pub mod Lookup
 pub mod History
 pub mod Audit
+pub mod Rules
 pub mod Table
 pub mod Publish
 pub mod Write
@@ -25,3 +26,4 @@ pub mod Level
 pub mod Answer
 pub mod Program
 pub mod Arrow
+pub mod Refusals

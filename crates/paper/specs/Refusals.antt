@@ -1,0 +1,136 @@
+-- Demand 1 over the definitions, for every public entry: "ends, and either answers or refuses by a number from document 01. A refusal writes nothing
+-- in any buffer lent to it and hands back the state it was given." Each entry's tests stand here as one list, in document 01's order;
+-- proofs/Refusals.antt shows that the entry is decided by them.
+use mathlib.Core.Path.{_≡_}
+use mathlib.Core.Logic.{_⊎_, _↔_}
+use mathlib.Core.Bool.{Bool, true, false, not, _&&_}
+use mathlib.Core.List.{List, [], _∷_, _++_, map}
+use Prim.Native.Nat.{ℕ, suc, _+_, _/_}
+use lib.Dec.{eqb, leb}
+use lib.ListN.{length, take, drop, getD}
+use Rattle.paper.specs.Lists.{_∈_}
+use Rattle.paper.specs.Numbers.{wide, updateSize, INPUT, FORM, HEAD, ROOT, RULE, FULL, CLASH, ROOM, TWICE, EPOCH, TABLE}
+use Rattle.paper.specs.Bytes.{Bytes}
+use Rattle.paper.specs.Bits.{bitsOf}
+use Rattle.paper.specs.Labelling.{Labelling, plain}
+use Rattle.paper.specs.Tree.{root, rootDigest}
+use Rattle.paper.specs.Path.{way}
+use Rattle.paper.specs.Layout.{Layout, Read, got, bad, times, parse}
+use Rattle.paper.specs.Fields.{pathField}
+use Rattle.paper.specs.Verdict.{Test, test, Hold, FirstFails}
+use Rattle.paper.specs.Shows.{Proof, proofTests, inputTests}
+use Rattle.paper.specs.Lookup.{lookupAsked, lookupField, lookupTerms}
+use Rattle.paper.specs.History.{historyAsked, historyField, historyTerms}
+use Rattle.paper.specs.Audit.{auditField, auditTests, auditInputTests}
+use Rattle.paper.specs.Rules.{LaidOut}
+use Rattle.paper.specs.Table.{Record, updateField, recordsWithin, headsWithin, counted, headLies, inShape, holds, distinct}
+use Rattle.paper.specs.Publish.{newRecord, publishTests, batchWithin}
+use Rattle.paper.specs.Level.{entriesWithin, leavesOf}
+use Rattle.paper.specs.declared.State.{State}
+
+-- what an entry leaves (its answer, and all that it was lent) is decided by tests in an order; `refused n` has the number n, the state and
+-- every byte as they were given
+pub record Decided {A : Type 0} (number : A → ℕ) (refused : ℕ → A) (order : List Test) (numbers : List ℕ) (left : A) : Type 0 where
+  -- it answers exactly where every test holds
+  pub answers : (number left ≡ 0) ↔ Hold order
+  -- "given exactly when": it refuses by n exactly where the first test that fails has the number n
+  pub refuses : (n : ℕ) → ¬ (n ≡ 0) → (number left ≡ n) ↔ FirstFails order n
+  -- "either answers or refuses by a number from document 01"
+  pub known : (number left ≡ 0) ⊎ (number left ∈ numbers)
+  -- "A refusal writes nothing .. and hands back the state it was given."
+  pub keeps : ¬ (number left ≡ 0) → left ≡ refused (number left)
+
+-- the test that something was read, and behind it those of what was read
+abbrev pub reading : {A : Type 0} → ℕ → Read A → (A → List Test) → List Test
+reading n bad tests = test n false ∷ []
+reading n (got x r) tests = test n true ∷ tests x
+
+-- ---- the checkers
+
+abbrev pub checkerNumbers : List ℕ
+checkerNumbers = INPUT ∷ FORM ∷ HEAD ∷ ROOT ∷ RULE ∷ []
+
+-- "Checkers test 1, 2 over the whole proof, 3; then lookup and history take paths in order, 4 before 5 for each."
+module _ (lab : Labelling) (d name b : Bytes) where
+  abbrev pub lookupTests : Proof → List Test
+  lookupTests p = proofTests lab name d (lookupTerms p) (lookupAsked (p .number)) p
+
+  abbrev pub lookupOrder : List Test
+  lookupOrder = inputTests d name ++ reading FORM (parse lookupField b) lookupTests
+
+  abbrev pub historyTests : Proof → List Test
+  historyTests p = proofTests lab name d (historyTerms p) (historyAsked (p .number) (p .head .epoch)) p
+
+  abbrev pub historyOrder : List Test
+  historyOrder = inputTests d name ++ reading FORM (parse historyField b) historyTests
+
+-- "Audits test the old head, the new head, the rules joining the heads, then per tree its list rules, old root, new root."
+abbrev pub auditOrder : Bytes → Bytes → Bytes → List Test
+auditOrder d d′ b = auditInputTests d d′ ++ reading FORM (parse auditField b) (auditTests d d′)
+
+-- a checker's refusal by n, with its cause: 1, the arguments are out of bounds; or they are not, and, 2, no value has the layout; or one has
+-- it, and n is the number of the first of its tests that fails
+pub data CheckerRefuses {A : Type 0} (InBounds : Type 0) (field : Layout A) (tests : A → List Test) (b : Bytes) (n : ℕ) : Type 0 where
+  by-input : n ≡ INPUT → ¬ InBounds → CheckerRefuses InBounds field tests b n
+  by-form : n ≡ FORM → InBounds → ((x : A) → ¬ LaidOut field x b) → CheckerRefuses InBounds field tests b n
+  by-test : InBounds → (x : A) → LaidOut field x b → FirstFails (tests x) n → CheckerRefuses InBounds field tests b n
+
+-- "Over 65,536 bytes, or too short for head and name, is 1.", and then the lookup checker's
+abbrev pub programOrder : Bytes → List Test
+programOrder b =
+    let n : ℕ = getD b wide 0 in
+    test INPUT (leb (length b) 65536 && leb (33 + n) (length b)) ∷ lookupOrder plain (take wide b) (take n (drop 33 b)) (drop (33 + n) b)
+
+-- ---- the server
+
+-- "Starting a directory tests 1 only"
+abbrev pub startNumbers : List ℕ
+startNumbers = INPUT ∷ []
+
+abbrev pub startOrder : Bytes → List Test
+startOrder heads = test INPUT (headsWithin heads) ∷ []
+
+-- "Publishing tests 1, 11, 9, 6, 7."
+abbrev pub publishNumbers : List ℕ
+publishNumbers = INPUT ∷ TABLE ∷ TWICE ∷ FULL ∷ CLASH ∷ []
+
+-- "Writers test 1, 11, 10, 7, 8."
+abbrev pub writerNumbers : List ℕ
+writerNumbers = INPUT ∷ TABLE ∷ EPOCH ∷ CLASH ∷ ROOM ∷ []
+
+module _ (lab : Labelling) (records heads : Bytes) (state : State) where
+  abbrev pub publishOrder : Bytes → List Test
+  publishOrder batch =
+      test INPUT (recordsWithin records && (headsWithin heads && batchWithin batch))
+      ∷ reading INPUT (parse (times (length batch / updateSize) updateField) batch) (λ us.
+      reading TABLE (counted records (state .count)) (λ rs.
+      publishTests lab records heads state rs us (map (newRecord lab rs (suc (state .epoch))) us)))
+
+  -- of a writer whose further arguments are in bounds or not, at epoch t, with its test of the trees and its proof for the counted records
+  abbrev pub writerOrder : Bytes → Bool → ℕ → (List Record → Bool) → (List Record → Bytes) → List Test
+  writerOrder out input t clear proof =
+      test INPUT (recordsWithin records && (headsWithin heads && input))
+      ∷ reading TABLE (counted records (state .count)) (λ rs.
+      test TABLE (headLies heads (state .epoch) && inShape lab (state .epoch) [] rs)
+      ∷ test EPOCH (leb t (state .epoch))
+      ∷ test CLASH (clear rs)
+      ∷ test ROOM (leb (length (proof rs)) (length out))
+      ∷ [])
+
+-- "CLASH is tried at the tree level, which takes labels directly."
+abbrev pub treeNumbers : List ℕ
+treeNumbers = INPUT ∷ CLASH ∷ ROOM ∷ []
+
+abbrev pub treeRootOrder : Bytes → Bytes → List Test
+treeRootOrder entries out =
+    test INPUT (entriesWithin entries)
+    ∷ test CLASH (distinct (leavesOf entries))
+    ∷ test ROOM (leb (length (rootDigest (leavesOf entries))) (length out))
+    ∷ []
+
+abbrev pub treePathOrder : Bytes → Bytes → Bool → Bytes → List Test
+treePathOrder entries label absent out =
+    test INPUT (entriesWithin entries && eqb (length label) wide)
+    ∷ test CLASH (distinct (leavesOf entries) && not (absent && holds (bitsOf label) (leavesOf entries)))
+    ∷ test ROOM (leb (length (pathField .bytes (way (bitsOf label) (root (leavesOf entries))))) (length out))
+    ∷ []
