@@ -46,3 +46,4 @@ pub mod Marker
 pub mod Verdicts
 pub mod Fits
 pub mod Counts
+pub mod Refusals

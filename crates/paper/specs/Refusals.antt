@@ -5,7 +5,7 @@ use mathlib.Core.Path.{_≡_}
 use mathlib.Core.Logic.{_⊎_, _↔_}
 use mathlib.Core.Bool.{Bool, true, false, not, _&&_}
 use mathlib.Core.List.{List, [], _∷_, _++_, map}
-use Prim.Native.Nat.{ℕ, suc, _+_, _/_}
+use Prim.Native.Nat.{ℕ, suc, _+_, _-_, _/_}
 use lib.Dec.{eqb, leb}
 use lib.ListN.{length, take, drop, getD}
 use Rattle.paper.specs.Lists.{_∈_}
@@ -16,15 +16,16 @@ use Rattle.paper.specs.Labelling.{Labelling, plain}
 use Rattle.paper.specs.Tree.{root, rootDigest}
 use Rattle.paper.specs.Path.{way}
 use Rattle.paper.specs.Layout.{Layout, Read, got, bad, times, parse}
-use Rattle.paper.specs.Fields.{pathField}
+use Rattle.paper.specs.Fields.{isName, pathField}
 use Rattle.paper.specs.Verdict.{Test, test, Hold, FirstFails}
 use Rattle.paper.specs.Shows.{Proof, proofTests, inputTests}
 use Rattle.paper.specs.Lookup.{lookupAsked, lookupField, lookupTerms}
 use Rattle.paper.specs.History.{historyAsked, historyField, historyTerms}
 use Rattle.paper.specs.Audit.{auditField, auditTests, auditInputTests}
 use Rattle.paper.specs.Rules.{LaidOut}
-use Rattle.paper.specs.Table.{Record, updateField, recordsWithin, headsWithin, counted, headLies, inShape, holds, distinct}
+use Rattle.paper.specs.Table.{Record, updateField, recordsWithin, headsWithin, counted, headLies, inShape, lastVersion, allAt, oldAt, holds, distinct}
 use Rattle.paper.specs.Publish.{newRecord, publishTests, batchWithin}
+use Rattle.paper.specs.Write.{versionsBy, unclashed, lookupProof, historyProof, auditProof}
 use Rattle.paper.specs.Level.{entriesWithin, leavesOf}
 use Rattle.paper.specs.declared.State.{State}
 
@@ -116,6 +117,26 @@ module _ (lab : Labelling) (records heads : Bytes) (state : State) where
       ∷ test CLASH (clear rs)
       ∷ test ROOM (leb (length (proof rs)) (length out))
       ∷ [])
+
+  module _ (out : Bytes) where
+    abbrev pub lookupWriterOrder : Bytes → ℕ → List Test
+    lookupWriterOrder name t =
+        writerOrder out (isName name) t
+        (λ rs. unclashed lab name t rs (lookupAsked (lastVersion (versionsBy lab name t rs))))
+        (λ rs. lookupField .bytes (lookupProof lab name t rs heads))
+
+    abbrev pub historyWriterOrder : Bytes → ℕ → List Test
+    historyWriterOrder name t =
+        writerOrder out (isName name) t
+        (λ rs. unclashed lab name t rs (historyAsked (length (versionsBy lab name t rs)) t))
+        (λ rs. historyField .bytes (historyProof lab name t rs heads))
+
+    -- "or an audit writer's new epoch is 0"
+    abbrev pub auditWriterOrder : ℕ → List Test
+    auditWriterOrder t =
+        writerOrder out (leb 1 t) t
+        (λ rs. distinct (allAt lab (t - 1) rs) && (distinct (oldAt lab (t - 1) rs) && (distinct (allAt lab t rs) && distinct (oldAt lab t rs))))
+        (λ rs. auditField .bytes (auditProof lab heads t rs))
 
 -- "CLASH is tried at the tree level, which takes labels directly."
 abbrev pub treeNumbers : List ℕ
