@@ -47,3 +47,6 @@ pub mod Verdicts
 pub mod Fits
 pub mod Counts
 pub mod Refusals
+pub mod Reflect
+pub mod Each
+pub mod Exact

@@ -99,7 +99,7 @@ module _ (lab : Labelling) (d name b : Bytes) where
   gives-zero (suc v) t c = refl
 
   lookup-read : (i : Bool) (m : Read Proof)
-      → Decided lookupNumber L.Refused (test INPUT i ∷ reading FORM m (lookupTests lab d name b)) checkerNumbers (cond i (lookupRead lab name d m) (L.Refused INPUT))
+      → Decided lookupNumber L.Refused (test INPUT i ∷ reading FORM m (lookupTests lab d name)) checkerNumbers (cond i (lookupRead lab name d m) (L.Refused INPUT))
   unfolding verdict
   lookup-read i bad = decided lookupNumber L.Refused (λ n. refl) checkerNumbers (omega arith) (L.NotRegistered 0 0) refl _ (inl refl, (inr (inl refl), tt))
   lookup-read i (got p r) =
@@ -111,7 +111,7 @@ module _ (lab : Labelling) (d name b : Bytes) where
   lookup-decided = lookup-read (eqb (length d) wide && isName name) (parse lookupField b)
 
   history-read : (i : Bool) (m : Read Proof)
-      → Decided historyNumber H.Refused (test INPUT i ∷ reading FORM m (historyTests lab d name b)) checkerNumbers (cond i (historyRead lab name d m) (H.Refused INPUT))
+      → Decided historyNumber H.Refused (test INPUT i ∷ reading FORM m (historyTests lab d name)) checkerNumbers (cond i (historyRead lab name d m) (H.Refused INPUT))
   unfolding verdict
   history-read i bad = decided historyNumber H.Refused (λ n. refl) checkerNumbers (omega arith) (H.Accepted 0 0 0) refl _ (inl refl, (inr (inl refl), tt))
   history-read i (got p r) = decided historyNumber H.Refused (λ n. refl) checkerNumbers (omega arith) _ refl _ (inl refl, (inr (inl refl), proof-of _ _ p))
@@ -139,7 +139,7 @@ module _ (d d′ b : Bytes) where
 
 -- the lookup checker's answer behind a test that the program makes first
 program-read : (d name b : Bytes) (c i : Bool) (m : Read Proof)
-    → Decided lookupNumber L.Refused (test INPUT c ∷ test INPUT i ∷ reading FORM m (lookupTests plain d name b)) checkerNumbers
+    → Decided lookupNumber L.Refused (test INPUT c ∷ test INPUT i ∷ reading FORM m (lookupTests plain d name)) checkerNumbers
     (cond c (cond i (lookupRead plain name d m) (L.Refused INPUT)) (L.Refused INPUT))
 unfolding verdict
 program-read d name b c i bad = decided lookupNumber L.Refused (λ n. refl) checkerNumbers (omega arith) (L.NotRegistered 0 0) refl _ (inl refl, (inl refl, (inr (inl refl), tt)))

@@ -22,7 +22,7 @@ use Rattle.paper.specs.Shows.{Proof, proofTests, inputTests}
 use Rattle.paper.specs.Lookup.{lookupAsked, lookupField, lookupTerms}
 use Rattle.paper.specs.History.{historyAsked, historyField, historyTerms}
 use Rattle.paper.specs.Audit.{auditField, auditTests, auditInputTests}
-use Rattle.paper.specs.Rules.{LaidOut}
+use Rattle.paper.specs.Rules.{Bounds, HeadBounds, LaidOut}
 use Rattle.paper.specs.Table.{Record, updateField, recordsWithin, headsWithin, counted, headLies, inShape, lastVersion, allAt, oldAt, holds, distinct}
 use Rattle.paper.specs.Publish.{newRecord, publishTests, batchWithin}
 use Rattle.paper.specs.Write.{versionsBy, unclashed, lookupProof, historyProof, auditProof}
@@ -52,18 +52,18 @@ abbrev pub checkerNumbers : List ℕ
 checkerNumbers = INPUT ∷ FORM ∷ HEAD ∷ ROOT ∷ RULE ∷ []
 
 -- "Checkers test 1, 2 over the whole proof, 3; then lookup and history take paths in order, 4 before 5 for each."
-module _ (lab : Labelling) (d name b : Bytes) where
+module _ (lab : Labelling) (d name : Bytes) where
   abbrev pub lookupTests : Proof → List Test
   lookupTests p = proofTests lab name d (lookupTerms p) (lookupAsked (p .number)) p
 
-  abbrev pub lookupOrder : List Test
-  lookupOrder = inputTests d name ++ reading FORM (parse lookupField b) lookupTests
+  abbrev pub lookupOrder : Bytes → List Test
+  lookupOrder b = inputTests d name ++ reading FORM (parse lookupField b) lookupTests
 
   abbrev pub historyTests : Proof → List Test
   historyTests p = proofTests lab name d (historyTerms p) (historyAsked (p .number) (p .head .epoch)) p
 
-  abbrev pub historyOrder : List Test
-  historyOrder = inputTests d name ++ reading FORM (parse historyField b) historyTests
+  abbrev pub historyOrder : Bytes → List Test
+  historyOrder b = inputTests d name ++ reading FORM (parse historyField b) historyTests
 
 -- "Audits test the old head, the new head, the rules joining the heads, then per tree its list rules, old root, new root."
 abbrev pub auditOrder : Bytes → Bytes → Bytes → List Test
@@ -75,6 +75,15 @@ pub data CheckerRefuses {A : Type 0} (InBounds : Type 0) (field : Layout A) (tes
   by-input : n ≡ INPUT → ¬ InBounds → CheckerRefuses InBounds field tests b n
   by-form : n ≡ FORM → InBounds → ((x : A) → ¬ LaidOut field x b) → CheckerRefuses InBounds field tests b n
   by-test : InBounds → (x : A) → LaidOut field x b → FirstFails (tests x) n → CheckerRefuses InBounds field tests b n
+
+abbrev pub LookupRefuses : Labelling → Bytes → Bytes → Bytes → ℕ → Type 0
+LookupRefuses lab d name b n = CheckerRefuses (Bounds d name) lookupField (lookupTests lab d name) b n
+
+abbrev pub HistoryRefuses : Labelling → Bytes → Bytes → Bytes → ℕ → Type 0
+HistoryRefuses lab d name b n = CheckerRefuses (Bounds d name) historyField (historyTests lab d name) b n
+
+abbrev pub AuditRefuses : Bytes → Bytes → Bytes → ℕ → Type 0
+AuditRefuses d d′ b n = CheckerRefuses (HeadBounds d d′) auditField (auditTests d d′) b n
 
 -- "Over 65,536 bytes, or too short for head and name, is 1.", and then the lookup checker's
 abbrev pub programOrder : Bytes → List Test

@@ -34,6 +34,11 @@ pub record Bounds (d name : Bytes) : Type 0 where
   pub head-size : length d ≡ wide
   pub name-bounds : NameBounds name
 
+-- for an audit: two heads of 32 bytes
+pub record HeadBounds (d d′ : Bytes) : Type 0 where
+  pub old-size : length d ≡ wide
+  pub new-size : length d′ ≡ wide
+
 -- "proof bytes break the layout": bytes are in layout where a value in the document's ranges has these very bytes
 pub record LaidOut {A : Type 0} (field : Layout A) (x : A) (b : Bytes) : Type 0 where
   pub fits : field .Fits x
@@ -186,8 +191,7 @@ pub record HistoryMeets (lab : Labelling) (d name b : Bytes) : Type 0 where
   pub rules : HistoryRules lab d name proof
 
 pub record AuditMeets (d d′ b : Bytes) : Type 0 where
-  pub old-size : length d ≡ wide
-  pub new-size : length d′ ≡ wide
+  pub bounds : HeadBounds d d′
   pub audit : Audit
   pub laid : LaidOut auditField audit b
   pub rules : AuditRules d d′ audit
