@@ -5,26 +5,25 @@ use mathlib.Core.Path.{_≡_}
 use mathlib.Core.Logic.{_⊎_, _↔_}
 use mathlib.Core.Bool.{Bool, true, false, not, _&&_}
 use mathlib.Core.List.{List, [], _∷_, _++_, map}
-use Prim.Native.Nat.{ℕ, suc, _+_, _-_, _/_}
+use Prim.Native.Nat.{ℕ, suc, _+_, _-_, _*_, _/_}
 use lib.Dec.{eqb, leb}
 use lib.ListN.{length, take, drop, getD}
-use Rattle.paper.specs.Lists.{_∈_}
-use Rattle.paper.specs.Numbers.{wide, updateSize, INPUT, FORM, HEAD, ROOT, RULE, FULL, CLASH, ROOM, TWICE, EPOCH, TABLE}
+use Rattle.paper.specs.Lists.{_∈_, every}
+use Rattle.paper.specs.Numbers.{wide, versionMost, recordSize, updateSize, INPUT, FORM, HEAD, ROOT, RULE, FULL, CLASH, ROOM, TWICE, EPOCH, TABLE}
 use Rattle.paper.specs.Bytes.{Bytes}
 use Rattle.paper.specs.Bits.{bitsOf}
 use Rattle.paper.specs.Labelling.{Labelling, plain}
 use Rattle.paper.specs.Tree.{root, rootDigest}
 use Rattle.paper.specs.Path.{way}
-use Rattle.paper.specs.Layout.{Layout, Read, got, bad, times, parse}
+use Rattle.paper.specs.Layout.{Read, got, bad, times, parse}
 use Rattle.paper.specs.Fields.{isName, pathField}
 use Rattle.paper.specs.Verdict.{Test, test, Hold, FirstFails}
 use Rattle.paper.specs.Shows.{Proof, proofTests, inputTests}
 use Rattle.paper.specs.Lookup.{lookupAsked, lookupField, lookupTerms}
 use Rattle.paper.specs.History.{historyAsked, historyField, historyTerms}
 use Rattle.paper.specs.Audit.{auditField, auditTests, auditInputTests}
-use Rattle.paper.specs.Rules.{Bounds, HeadBounds, LaidOut}
 use Rattle.paper.specs.Table.{Record, updateField, recordsWithin, headsWithin, counted, headLies, inShape, lastVersion, allAt, oldAt, holds, distinct}
-use Rattle.paper.specs.Publish.{newRecord, publishTests, batchWithin}
+use Rattle.paper.specs.Publish.{newRecord, once, batchWithin}
 use Rattle.paper.specs.Write.{versionsBy, unclashed, lookupProof, historyProof, auditProof}
 use Rattle.paper.specs.Level.{entriesWithin, leavesOf}
 use Rattle.paper.specs.declared.State.{State}
@@ -69,22 +68,6 @@ module _ (lab : Labelling) (d name : Bytes) where
 abbrev pub auditOrder : Bytes → Bytes → Bytes → List Test
 auditOrder d d′ b = auditInputTests d d′ ++ reading FORM (parse auditField b) (auditTests d d′)
 
--- a checker's refusal by n, with its cause: 1, the arguments are out of bounds; or they are not, and, 2, no value has the layout; or one has
--- it, and n is the number of the first of its tests that fails
-pub data CheckerRefuses {A : Type 0} (InBounds : Type 0) (field : Layout A) (tests : A → List Test) (b : Bytes) (n : ℕ) : Type 0 where
-  by-input : n ≡ INPUT → ¬ InBounds → CheckerRefuses InBounds field tests b n
-  by-form : n ≡ FORM → InBounds → ((x : A) → ¬ LaidOut field x b) → CheckerRefuses InBounds field tests b n
-  by-test : InBounds → (x : A) → LaidOut field x b → FirstFails (tests x) n → CheckerRefuses InBounds field tests b n
-
-abbrev pub LookupRefuses : Labelling → Bytes → Bytes → Bytes → ℕ → Type 0
-LookupRefuses lab d name b n = CheckerRefuses (Bounds d name) lookupField (lookupTests lab d name) b n
-
-abbrev pub HistoryRefuses : Labelling → Bytes → Bytes → Bytes → ℕ → Type 0
-HistoryRefuses lab d name b n = CheckerRefuses (Bounds d name) historyField (historyTests lab d name) b n
-
-abbrev pub AuditRefuses : Bytes → Bytes → Bytes → ℕ → Type 0
-AuditRefuses d d′ b n = CheckerRefuses (HeadBounds d d′) auditField (auditTests d d′) b n
-
 -- "Over 65,536 bytes, or too short for head and name, is 1.", and then the lookup checker's
 abbrev pub programOrder : Bytes → List Test
 programOrder b =
@@ -114,7 +97,13 @@ module _ (lab : Labelling) (records heads : Bytes) (state : State) where
       test INPUT (recordsWithin records && (headsWithin heads && batchWithin batch))
       ∷ reading INPUT (parse (times (length batch / updateSize) updateField) batch) (λ us.
       reading TABLE (counted records (state .count)) (λ rs.
-      publishTests lab records heads state rs us (map (newRecord lab rs (suc (state .epoch))) us)))
+      let more : List Record = map (newRecord lab rs (suc (state .epoch))) us in
+      test TABLE (headLies heads (state .epoch) && inShape lab (state .epoch) [] rs)
+      ∷ test TWICE (once lab us)
+      ∷ test FULL (leb ((state .count + length us) * recordSize) (length records)
+      && (leb ((state .epoch + 2) * wide) (length heads) && every (λ r. leb (r .version) versionMost) more))
+      ∷ test CLASH (distinct (allAt lab (suc (state .epoch)) (rs ++ more)) && distinct (oldAt lab (suc (state .epoch)) (rs ++ more)))
+      ∷ []))
 
   -- of a writer whose further arguments are in bounds or not, at epoch t, with its test of the trees and its proof for the counted records
   abbrev pub writerOrder : Bytes → Bool → ℕ → (List Record → Bool) → (List Record → Bytes) → List Test
