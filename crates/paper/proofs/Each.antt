@@ -1,5 +1,5 @@
 -- What a lookup and a history are asked to show, place by place: the k-th thing asked, from 1, goes with the k-th path. Assumes nothing.
-use mathlib.Core.Path.{_≡_, refl, sym, ap, _∙_, subst}
+use mathlib.Core.Path.{_≡_, refl, sym, _∙_, subst}
 use mathlib.Core.Logic.{_↔_, by-cases}
 use mathlib.Core.List.{List, [], _∷_, _++_, map}
 use Prim.Native.Nat.{ℕ, zero, suc, _+_, _-_, _^_, _≤_, _<_, min}
@@ -9,7 +9,7 @@ use lib.ListN.{length, length-map}
 use Rattle.paper.specs.Lists.{upFrom}
 use Rattle.paper.specs.Numbers.{versionMost}
 use Rattle.paper.specs.Bits.{log2}
-use Rattle.paper.specs.Shows.{Place, inAll, inOld, asMarker, Asked, present, missing}
+use Rattle.paper.specs.Shows.{inAll, inOld, asMarker, Asked, present, missing}
 use Rattle.paper.specs.Lookup.{lookupAsked}
 use Rattle.paper.specs.History.{markersBy, markersMissing, historyAsked}
 use Rattle.paper.proofs.Lists.{upFrom-length}

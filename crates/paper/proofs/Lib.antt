@@ -49,4 +49,6 @@ pub mod Counts
 pub mod Refusals
 pub mod Reflect
 pub mod Each
+pub mod Checked
+pub mod PathRules
 pub mod Exact

@@ -1,5 +1,5 @@
 -- Each test of the checkers' definitions passes exactly where its rule of specs/Rules.antt holds. Assumes nothing.
-use mathlib.Core.Path.{_≡_, refl, sym, ap, _∙_, subst}
+use mathlib.Core.Path.{_≡_, refl, ap}
 use mathlib.Core.Logic.{_⊎_, inr, ⊎-elim, _↔_}
 use mathlib.Core.Bool.{Bool, true, false, not, _&&_}
 use mathlib.Core.List.{List, [], _∷_}
@@ -16,9 +16,9 @@ use Rattle.paper.specs.Path.{End, this, other, off, none, sameBits, pres
 use Rattle.paper.specs.Fields.{isName}
 use Rattle.paper.specs.Audit.{AuditRecord, unchanged, opened, fresh, recordKey, before?, inOrder, Which, ofAll, ofOld, commitmentIn, recordRule}
 use Rattle.paper.specs.Rules.{NameBounds, AbsentEnd, Before, Pairs, CommitmentIn, RecordRules}
-use Rattle.paper.proofs.Lists.{and-left, and-right, and-both, not-both, every-all, all-every}
+use Rattle.paper.proofs.Lists.{and-left, and-right, and-both, not-both}
 use Rattle.paper.proofs.Bytes.{same-eq, eq-same}
-use Rattle.paper.proofs.Bits.{starts-pfx, pfx-starts, no-pfx}
+use Rattle.paper.proofs.Bits.{starts-pfx, pfx-starts}
 use Rattle.paper.proofs.Walk.{sameBits-eq, eq-sameBits, fails}
 use Rattle.paper.proofs.Order.{test-before, before-test, before-apart, before-trans}
 

@@ -2,9 +2,9 @@
 -- where all hold, it refuses exactly by the number of the first that fails, which is one of document 01's, and a refusal leaves the state and every byte as
 -- they were. Assumes nothing.
 use mathlib.Core.Path.{_≡_, refl, sym, ap, _∙_, subst}
-use mathlib.Core.Logic.{_⊎_, inl, inr, ⊎-elim}
+use mathlib.Core.Logic.{inl, inr, ⊎-elim}
 use mathlib.Core.Bool.{Bool, true, false, cond, _&&_}
-use mathlib.Core.List.{List, [], _∷_, _++_, map}
+use mathlib.Core.List.{List, [], _∷_, map}
 use Prim.Native.Nat.{ℕ, zero, suc, _+_, _/_, _<_}
 use native.Mathlib.Omega.{arith}
 use lib.Dec.{eqb, leb}
@@ -19,16 +19,16 @@ use Rattle.paper.specs.Layout.{Read, got, bad, times, parse}
 use Rattle.paper.specs.Fields.{isName}
 use Rattle.paper.specs.Verdict.{Test, test, verdict, Hold, FirstFails}
 use Rattle.paper.specs.Shows.{Asked, Terms, Proof, pathTests, proofTests, inputTests}
-use Rattle.paper.specs.Lookup.{lookupField, lookupStrings, lookupGives, lookupRead, checkLookup}
+use Rattle.paper.specs.Lookup.{lookupField, lookupStrings, lookupGives, lookupRead, checkLookup, acceptedKey}
 use Rattle.paper.specs.History.{historyField, historyRead, checkHistory}
 use Rattle.paper.specs.Audit.{Audit, auditField, auditTests, auditRead, checkAudit}
 use Rattle.paper.specs.Table.{Record, Update, updateField, recordsWithin, headsWithin, counted, headLies, inShape}
 use Rattle.paper.specs.Publish.{start, newRecord, unpublished, appended, publishTests, publishTable, publishBatch, batchWithin, publish}
-use Rattle.paper.specs.Write.{unwritten, writeRead, writeWith, writeLookup, writeHistory, writeAudit}
+use Rattle.paper.specs.Write.{unwritten, writeRead, writeWith}
 use Rattle.paper.specs.Level.{laid, treeRoot, treePath}
 use Rattle.paper.specs.Answer.{lookupNumber, historyNumber, auditNumber, startNumber, publishNumber, writeNumber, treeNumber}
 use Rattle.paper.specs.Program.{line, programLine}
-use Rattle.paper.specs.Refusals.{Decided, reading, checkerNumbers, lookupTests, lookupOrder, historyTests, historyOrder, auditOrder, programOrder, startNumbers, startOrder, publishNumbers, publishOrder, writerNumbers, writerOrder, lookupWriterOrder, historyWriterOrder, auditWriterOrder, treeNumbers, treeRootOrder, treePathOrder}
+use Rattle.paper.specs.Refusals.{Decided, EveryEntry, reading, checkerNumbers, lookupTests, lookupOrder, historyTests, historyOrder, auditOrder, programOrder, startNumbers, startOrder, publishNumbers, publishOrder, writerNumbers, writerOrder, treeNumbers, treeRootOrder, treePathOrder}
 use Rattle.paper.specs.declared.State.{State}
 use Rattle.paper.specs.declared.LookupAnswer.{LookupAnswer}
 use Rattle.paper.specs.declared.LookupAnswer.the-variants as L
@@ -37,7 +37,7 @@ use Rattle.paper.specs.declared.AuditAnswer.the-variants as A
 use Rattle.paper.specs.declared.StartAnswer.the-variants as S
 use Rattle.paper.specs.declared.WriteAnswer.the-variants as W
 use Rattle.paper.specs.declared.TreeAnswer.the-variants as T
-use Rattle.paper.proofs.Lists.{all-in, in-right, all-append, not-both}
+use Rattle.paper.proofs.Lists.{all-in, in-right}
 use Rattle.paper.proofs.Verdicts.{verdict-cases, verdict-all, verdict-first}
 
 -- the numbers of the tests are of the list
@@ -148,7 +148,7 @@ program-read d name b c i (got p r) =
     (inl refl, (inl refl, (inr (inl refl), proof-of plain d name b _ _ p)))
 
 -- the program prints the line of an answer that is decided so
-pub program-decided : (b : Bytes) → (a : LookupAnswer) × (programLine b ≡ line a) × Decided lookupNumber L.Refused (programOrder b) checkerNumbers a
+program-decided : (b : Bytes) → (a : LookupAnswer) × (programLine b ≡ line a) × Decided lookupNumber L.Refused (programOrder b) checkerNumbers a
 unfolding programLine checkLookup inputTests verdict
 program-decided b =
     let n : ℕ = getD b wide 0 in
@@ -164,7 +164,7 @@ program-decided b =
 
 -- ---- the server
 
-pub start-decided : (lab : Labelling) (heads : Bytes)
+start-decided : (lab : Labelling) (heads : Bytes)
     → Decided (λ x. startNumber (x .answer)) (λ n. record { answer = S.Refused n; heads = heads }) (startOrder heads) startNumbers (start lab heads)
 unfolding start
 start-decided lab heads = decided (λ x. startNumber (x .answer)) _ (λ n. refl) startNumbers (omega arith) _ refl _ (inl refl, tt)
@@ -189,7 +189,7 @@ module _ (lab : Labelling) (records heads : Bytes) (state : State) where
   publish-read i bad = decided (λ x. publishNumber (x .answer)) _ (λ n. refl) publishNumbers (omega arith) (appended lab records heads state [] []) refl _ (inl refl, (inl refl, tt))
   publish-read i (got us r) = publish-table i us (counted records (state .count))
 
-  pub publish-decided : (batch : Bytes)
+  publish-decided : (batch : Bytes)
       → Decided (λ x. publishNumber (x .answer)) (unpublished lab records heads state) (publishOrder lab records heads state batch) publishNumbers (publish lab records heads state batch)
   unfolding publish verdict
   publish-decided batch = publish-read (recordsWithin records && (headsWithin heads && batchWithin batch)) (parse (times (length batch / updateSize) updateField) batch)
@@ -212,32 +212,38 @@ module _ (lab : Labelling) (records heads : Bytes) (state : State) where
         (inl refl, (inr (inl refl), (inr (inl refl), (inr (inr (inl refl)), (inr (inr (inr (inl refl))), (inr (inr (inr (inr (inl refl)))), tt))))))
 
     -- the three writers are this one, each with its test of its arguments and of the trees, and its proof
-    pub writer-decided : (input : Bool) (t : ℕ) (clear : List Record → Bool) (proof : List Record → Bytes)
+    writer-decided : (input : Bool) (t : ℕ) (clear : List Record → Bool) (proof : List Record → Bytes)
         → Decided (λ x. writeNumber (x .answer)) (unwritten lab records heads state out) (writerOrder lab records heads state out input t clear proof) writerNumbers
         (writeWith lab records heads state out input t clear proof)
     unfolding writeWith verdict
     writer-decided input t clear proof = write-read (recordsWithin records && (headsWithin heads && input)) t clear proof (counted records (state .count))
 
-    pub write-lookup-decided : (name : Bytes) (t : ℕ)
-        → Decided (λ x. writeNumber (x .answer)) (unwritten lab records heads state out) (lookupWriterOrder lab records heads state out name t) writerNumbers (writeLookup lab records heads state out name t)
-    write-lookup-decided name t = writer-decided _ t _ _
-
-    pub write-history-decided : (name : Bytes) (t : ℕ)
-        → Decided (λ x. writeNumber (x .answer)) (unwritten lab records heads state out) (historyWriterOrder lab records heads state out name t) writerNumbers (writeHistory lab records heads state out name t)
-    write-history-decided name t = writer-decided _ t _ _
-
-    pub write-audit-decided : (t : ℕ)
-        → Decided (λ x. writeNumber (x .answer)) (unwritten lab records heads state out) (auditWriterOrder lab records heads state out t) writerNumbers (writeAudit lab records heads state out t)
-    write-audit-decided t = writer-decided _ t _ _
-
 -- ---- the tree level
 
-pub tree-root-decided : (entries out : Bytes)
+tree-root-decided : (entries out : Bytes)
     → Decided (λ x. treeNumber (x .answer)) (λ n. record { answer = T.Refused n; out = out }) (treeRootOrder entries out) treeNumbers (treeRoot entries out)
 unfolding treeRoot laid
 tree-root-decided entries out = decided (λ x. treeNumber (x .answer)) _ (λ n. refl) treeNumbers (omega arith) _ refl _ (inl refl, (inr (inl refl), (inr (inr (inl refl)), tt)))
 
-pub tree-path-decided : (entries label : Bytes) (absent : Bool) (out : Bytes)
+tree-path-decided : (entries label : Bytes) (absent : Bool) (out : Bytes)
     → Decided (λ x. treeNumber (x .answer)) (λ n. record { answer = T.Refused n; out = out }) (treePathOrder entries label absent out) treeNumbers (treePath entries label absent out)
 unfolding treePath laid
 tree-path-decided entries label absent out = decided (λ x. treeNumber (x .answer)) _ (λ n. refl) treeNumbers (omega arith) _ refl _ (inl refl, (inr (inl refl), (inr (inr (inl refl)), tt)))
+
+-- ---- gathered
+
+pub demand-1 : (lab : Labelling) → EveryEntry lab
+demand-1 lab = record {
+  check-lookup = lookup-decided lab;
+  check-history = history-decided lab;
+  check-audit = audit-decided;
+  accepted-key = λ d name b z. ap (λ a. acceptedKey a b) (lookup-decided lab d name b .keeps z);
+  program-line = program-decided;
+  starts = start-decided lab;
+  publishes = publish-decided lab;
+  write-lookup = λ records heads state out name t. writer-decided lab records heads state out _ t _ _;
+  write-history = λ records heads state out name t. writer-decided lab records heads state out _ t _ _;
+  write-audit = λ records heads state out t. writer-decided lab records heads state out _ t _ _;
+  tree-root = tree-root-decided;
+  tree-path = tree-path-decided;
+}

@@ -15,6 +15,7 @@ pub mod Lookup
 pub mod History
 pub mod Audit
 pub mod Rules
+pub mod Broken
 pub mod Table
 pub mod Publish
 pub mod Write

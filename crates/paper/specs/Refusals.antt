@@ -19,14 +19,24 @@ use Rattle.paper.specs.Layout.{Read, got, bad, times, parse}
 use Rattle.paper.specs.Fields.{isName, pathField}
 use Rattle.paper.specs.Verdict.{Test, test, Hold, FirstFails}
 use Rattle.paper.specs.Shows.{Proof, proofTests, inputTests}
-use Rattle.paper.specs.Lookup.{lookupAsked, lookupField, lookupTerms}
-use Rattle.paper.specs.History.{historyAsked, historyField, historyTerms}
-use Rattle.paper.specs.Audit.{auditField, auditTests, auditInputTests}
+use Rattle.paper.specs.Lookup.{lookupAsked, lookupField, lookupTerms, checkLookup, acceptedKey}
+use Rattle.paper.specs.History.{historyAsked, historyField, historyTerms, checkHistory}
+use Rattle.paper.specs.Audit.{auditField, auditTests, auditInputTests, checkAudit}
 use Rattle.paper.specs.Table.{Record, updateField, recordsWithin, headsWithin, counted, headLies, inShape, lastVersion, allAt, oldAt, holds, distinct}
-use Rattle.paper.specs.Publish.{newRecord, once, batchWithin}
-use Rattle.paper.specs.Write.{versionsBy, unclashed, lookupProof, historyProof, auditProof}
-use Rattle.paper.specs.Level.{entriesWithin, leavesOf}
+use Rattle.paper.specs.Publish.{start, newRecord, once, batchWithin, publish}
+use Rattle.paper.specs.Write.{versionsBy, unclashed, lookupProof, historyProof, auditProof, writeLookup, writeHistory, writeAudit}
+use Rattle.paper.specs.Level.{entriesWithin, leavesOf, treeRoot, treePath}
+use Rattle.paper.specs.Answer.{lookupNumber, historyNumber, auditNumber, startNumber, publishNumber, writeNumber, treeNumber}
+use Rattle.paper.specs.Program.{line, programLine}
 use Rattle.paper.specs.declared.State.{State}
+use Rattle.paper.specs.declared.LookupAnswer.{LookupAnswer}
+use Rattle.paper.specs.declared.LookupAnswer.the-variants as L
+use Rattle.paper.specs.declared.HistoryAnswer.the-variants as H
+use Rattle.paper.specs.declared.AuditAnswer.the-variants as A
+use Rattle.paper.specs.declared.StartAnswer.the-variants as S
+use Rattle.paper.specs.declared.PublishAnswer.the-variants as P
+use Rattle.paper.specs.declared.WriteAnswer.the-variants as W
+use Rattle.paper.specs.declared.TreeAnswer.the-variants as T
 
 -- what an entry leaves (its answer, and all that it was lent) is decided by tests in an order; `refused n` has the number n, the state and
 -- every byte as they were given
@@ -153,3 +163,33 @@ treePathOrder entries label absent out =
     ∷ test CLASH (distinct (leavesOf entries) && not (absent && holds (bitsOf label) (leavesOf entries)))
     ∷ test ROOM (leb (length (pathField .bytes (way (bitsOf label) (root (leavesOf entries))))) (length out))
     ∷ []
+
+-- ---- gathered
+
+-- every public entry's definition, with what it leaves where it refuses by n
+pub record EveryEntry (lab : Labelling) : Type 0 where
+  pub check-lookup : (d name b : Bytes) → Decided lookupNumber L.Refused (lookupOrder lab d name b) checkerNumbers (checkLookup lab d name b)
+  pub check-history : (d name b : Bytes) → Decided historyNumber H.Refused (historyOrder lab d name b) checkerNumbers (checkHistory lab d name b)
+  pub check-audit : (d d′ b : Bytes) → Decided auditNumber A.Refused (auditOrder d d′ b) checkerNumbers (checkAudit d d′ b)
+  -- "a refusal .. gives the empty part at its start"
+  pub accepted-key : (d name b : Bytes) → ¬ (lookupNumber (checkLookup lab d name b) ≡ 0) → acceptedKey (checkLookup lab d name b) b ≡ []
+  -- "It prints one line": that of an answer which is decided so
+  pub program-line : (b : Bytes) → (a : LookupAnswer) × (programLine b ≡ line a) × Decided lookupNumber L.Refused (programOrder b) checkerNumbers a
+  pub starts : (heads : Bytes)
+      → Decided (λ x. startNumber (x .answer)) (λ n. record { answer = S.Refused n; heads = heads }) (startOrder heads) startNumbers (start lab heads)
+  pub publishes : (records heads : Bytes) (state : State) (batch : Bytes)
+      → Decided (λ x. publishNumber (x .answer)) (λ n. record { answer = P.Refused n state; records = records; heads = heads })
+      (publishOrder lab records heads state batch) publishNumbers (publish lab records heads state batch)
+  pub write-lookup : (records heads : Bytes) (state : State) (out name : Bytes) (t : ℕ)
+      → Decided (λ x. writeNumber (x .answer)) (λ n. record { answer = W.Refused n state; out = out })
+      (lookupWriterOrder lab records heads state out name t) writerNumbers (writeLookup lab records heads state out name t)
+  pub write-history : (records heads : Bytes) (state : State) (out name : Bytes) (t : ℕ)
+      → Decided (λ x. writeNumber (x .answer)) (λ n. record { answer = W.Refused n state; out = out })
+      (historyWriterOrder lab records heads state out name t) writerNumbers (writeHistory lab records heads state out name t)
+  pub write-audit : (records heads : Bytes) (state : State) (out : Bytes) (t : ℕ)
+      → Decided (λ x. writeNumber (x .answer)) (λ n. record { answer = W.Refused n state; out = out })
+      (auditWriterOrder lab records heads state out t) writerNumbers (writeAudit lab records heads state out t)
+  pub tree-root : (entries out : Bytes)
+      → Decided (λ x. treeNumber (x .answer)) (λ n. record { answer = T.Refused n; out = out }) (treeRootOrder entries out) treeNumbers (treeRoot entries out)
+  pub tree-path : (entries label : Bytes) (absent : Bool) (out : Bytes)
+      → Decided (λ x. treeNumber (x .answer)) (λ n. record { answer = T.Refused n; out = out }) (treePathOrder entries label absent out) treeNumbers (treePath entries label absent out)
