@@ -159,7 +159,7 @@ module _ (lab : Labelling) (d name : Bytes) (p : Proof) where
     first = λ l. omega (arith, version-told 1 (s .there 1 (omega arith) l) .1);
     rise = λ i l u.
         let z : suc i - 1 ≡ i = omega arith in
-        subst (λ j. epochAt p j < epochAt p (suc i)) z (version-told (suc i) (s .there (suc i) (omega arith) u) .1);
+        omega (arith, subst (λ j. epochAt p j < epochAt p (suc i)) z (version-told (suc i) (s .there (suc i) (omega arith) u) .1));
     reach = λ i l u. version-told i (s .there i l u) .2;
     replaced = λ i l u. let (g, (e, q, t)) = s .replaced i l u in record { gives = g; ends = q ∙ ap (this (zeros wide)) t };
     not-replaced = λ l. let (g, a) = s .not-replaced l in record { gives = g; ends = a };

@@ -92,7 +92,7 @@ commitment-tells ofOld c = same-tells c (zeros wide)
 record-tells : (w : Which) (old new : ℕ) (x : AuditRecord) → Tells (recordRule w old new x) (RecordRules w old new x)
 record-tells w old new (unchanged m c e) =
     let (to, from) = both-tell (le-tells 1 e) (both-tell (le-tells e old) (commitment-tells w c)) in
-    (λ h. let (a, (b, d)) = to h in (a, b, d), λ (a, b, d). from (a, (b, d)))
+    (λ h. let (a, (b, d)) = to h in (omega arith, omega arith, d), λ (a, b, d). from (omega arith, (omega arith, d)))
 record-tells w old new (opened p l r) = (λ _. tt, λ _. refl)
 record-tells w old new (fresh m c e) = both-tell (eq-tells e new) (commitment-tells w c)
 
