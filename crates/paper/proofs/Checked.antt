@@ -1,47 +1,22 @@
 -- A checker's tests: the bounds, the layout, and then one for each rule, in order. All hold exactly where the arguments are in bounds and a value has the
 -- layout and meets the rest; and the first that fails is that of the first rule that is broken. Assumes nothing.
-use mathlib.Core.Path.{_≡_, refl, sym, ap, _∙_, subst}
-use mathlib.Core.Logic.{_⊎_, inl, inr, ⊎-elim, _↔_}
-use mathlib.Core.Bool.{Bool, true, false}
-use mathlib.Core.List.{List, [], _∷_, _++_}
+use mathlib.Core.Path.{_≡_, refl, sym, ap, _∙_}
+use mathlib.Core.Logic.{inl, inr, ⊎-elim, _↔_}
+use mathlib.Core.Bool.{Bool, false}
+use mathlib.Core.List.{List, [], _∷_}
 use Prim.Native.Nat.{ℕ}
-use native.Mathlib.Omega.{arith}
 use Rattle.paper.specs.Numbers.{INPUT, FORM}
 use Rattle.paper.specs.Bytes.{Bytes, Bytewise}
-use Rattle.paper.specs.Path.{none}
 use Rattle.paper.specs.Layout.{Layout, Read, got, bad, parse}
 use Rattle.paper.specs.Verdict.{Test, test, Hold, FirstFails}
 use Rattle.paper.specs.Rules.{LaidOut}
 use Rattle.paper.specs.Broken.{Rule, FirstBroken, Refuses, by-input, by-form, by-rule}
 use Rattle.paper.specs.Refusals.{reading}
 use Rattle.paper.proofs.Lists.{not-both}
+use Rattle.paper.proofs.Verdicts.{no-first, first-cons}
 use Rattle.paper.proofs.Layouts.{Lawful, parse-bytes, bytes-parse, bad-parse}
 use Rattle.paper.proofs.Walk.{fails}
 use Rattle.paper.proofs.Reflect.{Tells}
-
--- the first of the tests that fails is the first test, or the first of the others
-first-cons : (t : Test) (ts : List Test) (n : ℕ) → FirstFails (t ∷ ts) n ↔ (((t .holds ≡ false) × (t .number ≡ n)) ⊎ ((t .holds ≡ true) × FirstFails ts n))
-first-cons t ts n = (λ f. to (f .passed) f refl, ⊎-elim here later)
-  where
-    Goal : Type 0
-    Goal = ((t .holds ≡ false) × (t .number ≡ n)) ⊎ ((t .holds ≡ true) × FirstFails ts n)
-
-    to : (ps : List Test) (f : FirstFails (t ∷ ts) n) → f .passed ≡ ps → Goal
-    to [] f e =
-        let s : f .failed ∷ f .rest ≡ t ∷ ts = ap (λ l. l ++ (f .failed ∷ f .rest)) (sym e) ∙ f .split in
-        let q : f .failed ≡ t = cc in
-        inl (ap (λ u. u .holds) (sym q) ∙ f .fails, ap (λ u. u .number) (sym q) ∙ f .number)
-    to (p ∷ ps) f e =
-        let s : p ∷ (ps ++ (f .failed ∷ f .rest)) ≡ t ∷ ts = ap (λ l. l ++ (f .failed ∷ f .rest)) (sym e) ∙ f .split in
-        let q : p ≡ t = cc in
-        let h : Hold (p ∷ ps) = subst Hold e (f .hold) in
-        inr (ap (λ u. u .holds) (sym q) ∙ h .0, record { passed = ps; failed = f .failed; rest = f .rest; split = cc; hold = h .1; fails = f .fails; number = f .number })
-
-    here : (t .holds ≡ false) × (t .number ≡ n) → FirstFails (t ∷ ts) n
-    here (e, q) = record { passed = []; failed = t; rest = ts; split = refl; hold = tt; fails = e; number = q }
-
-    later : (t .holds ≡ true) × FirstFails ts n → FirstFails (t ∷ ts) n
-    later (e, f) = record { passed = t ∷ f .passed; failed = f .failed; rest = f .rest; split = ap (λ l. t ∷ l) (f .split); hold = (e, f .hold); fails = f .fails; number = f .number }
 
 -- tests and rules, one for one: the same number, and the test passes exactly where the rule holds
 abbrev pub Alike : List Test → List Rule → Type 0
@@ -49,13 +24,6 @@ Alike [] [] = Unit {0}
 Alike [] (r ∷ rs) = ⊥
 Alike (t ∷ ts) [] = ⊥
 Alike (t ∷ ts) (r ∷ rs) = (t .number ≡ r .number) × Tells (t .holds) (r .says) × Alike ts rs
-
-no-first : (n : ℕ) → FirstFails [] n → ⊥
-no-first n f = none (f .passed) (f .split)
-  where
-    none : (ps : List Test) → ps ++ (f .failed ∷ f .rest) ≡ [] → ⊥
-    none [] e = let z : _≡_ {A = ℕ} 0 1 = cc in omega arith
-    none (p ∷ ps) e = let z : _≡_ {A = ℕ} 0 1 = cc in omega arith
 
 -- so the first test that fails is that of the first rule that is broken
 first-broken : (ts : List Test) (rs : List Rule) → Alike ts rs → (n : ℕ) → FirstFails ts n ↔ FirstBroken rs n

@@ -7,7 +7,7 @@ use mathlib.Core.Bool.{Bool, true, false, cond, _&&_}
 use mathlib.Core.List.{List, [], _∷_, map}
 use Prim.Native.Nat.{ℕ, zero, suc, _+_, _/_, _<_}
 use native.Mathlib.Omega.{arith}
-use lib.Dec.{eqb, leb}
+use lib.Dec.{leb}
 use lib.ListN.{length, take, drop, getD}
 use Rattle.paper.specs.Lists.{_∈_, All}
 use Rattle.paper.specs.Numbers.{wide, updateSize, INPUT, FORM, TABLE, EPOCH, CLASH, ROOM}
@@ -16,29 +16,29 @@ use Rattle.paper.specs.Strings.{Head}
 use Rattle.paper.specs.Labelling.{Labelling, plain}
 use Rattle.paper.specs.Path.{Path}
 use Rattle.paper.specs.Layout.{Read, got, bad, times, parse}
-use Rattle.paper.specs.Fields.{isName}
-use Rattle.paper.specs.Verdict.{Test, test, verdict, Hold, FirstFails}
+use Rattle.paper.specs.Verdict.{Test, test, verdict}
 use Rattle.paper.specs.Shows.{Asked, Terms, Proof, pathTests, proofTests, inputTests}
 use Rattle.paper.specs.Lookup.{lookupField, lookupStrings, lookupGives, lookupRead, checkLookup, acceptedKey}
 use Rattle.paper.specs.History.{historyField, historyRead, checkHistory}
 use Rattle.paper.specs.Audit.{Audit, auditField, auditTests, auditRead, checkAudit}
-use Rattle.paper.specs.Table.{Record, Update, updateField, recordsWithin, headsWithin, counted, headLies, inShape}
-use Rattle.paper.specs.Publish.{start, newRecord, unpublished, appended, publishTests, publishTable, publishBatch, batchWithin, publish}
-use Rattle.paper.specs.Write.{unwritten, writeRead, writeWith}
-use Rattle.paper.specs.Level.{laid, treeRoot, treePath}
+use Rattle.paper.specs.Table.{Record, Update, updateField, counted, headLies, inShape}
+use Rattle.paper.specs.Publish.{start, Published, newRecord, unpublished, publishTests, publishTable, publishBatch, publish}
+use Rattle.paper.specs.Write.{Written, unwritten, writeRead, writeWith}
+use Rattle.paper.specs.Level.{Laid, laid, treeRoot, treePath}
 use Rattle.paper.specs.Answer.{lookupNumber, historyNumber, auditNumber, startNumber, publishNumber, writeNumber, treeNumber}
 use Rattle.paper.specs.Program.{line, programLine}
 use Rattle.paper.specs.Refusals.{Decided, EveryEntry, reading, checkerNumbers, lookupTests, lookupOrder, historyTests, historyOrder, auditOrder, programOrder, startNumbers, startOrder, publishNumbers, publishOrder, writerNumbers, writerOrder, treeNumbers, treeRootOrder, treePathOrder}
 use Rattle.paper.specs.declared.State.{State}
 use Rattle.paper.specs.declared.LookupAnswer.{LookupAnswer}
 use Rattle.paper.specs.declared.LookupAnswer.the-variants as L
+use Rattle.paper.specs.declared.HistoryAnswer.{HistoryAnswer}
 use Rattle.paper.specs.declared.HistoryAnswer.the-variants as H
+use Rattle.paper.specs.declared.AuditAnswer.{AuditAnswer}
 use Rattle.paper.specs.declared.AuditAnswer.the-variants as A
 use Rattle.paper.specs.declared.StartAnswer.the-variants as S
-use Rattle.paper.specs.declared.WriteAnswer.the-variants as W
 use Rattle.paper.specs.declared.TreeAnswer.the-variants as T
-use Rattle.paper.proofs.Lists.{all-in, in-right}
-use Rattle.paper.proofs.Verdicts.{verdict-cases, verdict-all, verdict-first}
+use Rattle.paper.proofs.Lists.{all-in, not-both}
+use Rattle.paper.proofs.Verdicts.{no-first, first-cons}
 
 -- the numbers of the tests are of the list
 abbrev Of : List ℕ → List Test → Type 0
@@ -46,44 +46,69 @@ Of numbers = All (λ t. t .number ∈ numbers)
 
 -- ---- the law
 
-module _ {A : Type 0} (number : A → ℕ) (refused : ℕ → A) (back : (n : ℕ) → number (refused n) ≡ n) (numbers : List ℕ) (positive : All (λ n. 0 < n) numbers) where
-  -- the number of the first test that fails is of the list, and so it is not 0
-  failed-of : (order : List Test) → Of numbers order → (n : ℕ) → FirstFails order n → n ∈ numbers
-  failed-of order o n f =
-      subst (λ m. m ∈ numbers) (f .number)
-      (all-in _ order o (f .failed) (subst (λ l. f .failed ∈ l) (f .split) (in-right (f .failed) (f .passed) (f .failed ∷ f .rest) (inl refl))))
+-- an entry's number, what it leaves where it refuses, and its numbers, of which none is 0
+record Entry (A : Type 0) : Type 0 where
+  number : A → ℕ
+  refused : ℕ → A
+  back : (n : ℕ) → number (refused n) ≡ n
+  numbers : List ℕ
+  positive : All (λ n. 0 < n) numbers
 
-  not-zero : (n : ℕ) → n ∈ numbers → ¬ (n ≡ 0)
-  not-zero n m e = omega (arith, all-in _ numbers positive n m)
+module _ {A : Type 0} (entry : Entry A) where
+  open Entry entry using (number, refused, back, numbers, positive)
 
-  -- a verdict is decided by its tests
+  -- with no test, the answer
+  answered : (answer : A) → number answer ≡ 0 → Decided number refused [] numbers answer
+  answered answer z = record {
+    answers = (λ _. tt, λ _. z);
+    refuses = λ n d. (λ e. absurd (d (sym e ∙ z)), λ f. absurd (no-first n f));
+    known = inl z;
+    keeps = λ d. absurd (d z);
+  }
+
+  -- behind a test that holds, as without it
+  behind : (n : ℕ) (order : List Test) (left : A) → Decided number refused order numbers left → Decided number refused (test n true ∷ order) numbers left
+  behind n order left d = record {
+    answers = (λ e. (refl, d .answers .0 e), λ h. d .answers .1 (h .1));
+    refuses = λ k z.
+        (λ e. first-cons _ order k .1 (inr (refl, d .refuses k z .0 e)), λ f. ⊎-elim (λ (e, _). not-both refl e) (λ (_, g). d .refuses k z .1 g) (first-cons _ order k .0 f));
+    known = d .known;
+    keeps = d .keeps;
+  }
+
+  -- at a test that fails, its refusal
+  stopped : (n : ℕ) → n ∈ numbers → (order : List Test) → Decided number refused (test n false ∷ order) numbers (refused n)
+  stopped n m order = record {
+    answers = (λ e. absurd (omega (arith, all-in _ numbers positive n m, back n)), λ h. not-both (h .0) refl);
+    refuses = λ k z.
+        (λ e. first-cons _ order k .1 (inl (refl, sym (back n) ∙ e)), λ f. ⊎-elim (λ (_, e). back n ∙ e) (λ (e, _). not-both e refl) (first-cons _ order k .0 f));
+    known = inr (subst (λ k. k ∈ numbers) (sym (back n)) m);
+    keeps = λ _. ap refused (sym (back n));
+  }
+
+  tested : (n : ℕ) → n ∈ numbers → (b : Bool) (order : List Test) (left : A) → Decided number refused order numbers left
+      → Decided number refused (test n b ∷ order) numbers (cond b left (refused n))
+  tested n m true order left d = behind n order left d
+  tested n m false order left d = stopped n m order
+
+  -- so a verdict is decided by its tests
   decided : (answer : A) → number answer ≡ 0 → (order : List Test) → Of numbers order → Decided number refused order numbers (verdict refused answer order)
-  decided answer z order o = ⊎-elim held failed (verdict-cases refused answer order)
-    where
-      held : Hold order × (verdict refused answer order ≡ answer) → Decided number refused order numbers (verdict refused answer order)
-      held (h, q) =
-          let e : number (verdict refused answer order) ≡ 0 = ap number q ∙ z in
-          record {
-            answers = (λ _. h, λ _. e);
-            refuses = λ n d. (λ k. absurd (d (sym k ∙ e)), λ f. ap number (verdict-first refused answer order n f) ∙ back n);
-            known = inl e;
-            keeps = λ d. absurd (d e);
-          }
-
-      failed : (n : ℕ) × FirstFails order n × (verdict refused answer order ≡ refused n) → Decided number refused order numbers (verdict refused answer order)
-      failed (n, f, q) =
-          let e : number (verdict refused answer order) ≡ n = ap number q ∙ back n in
-          let m = failed-of order o n f in
-          record {
-            answers = (λ k. absurd (not-zero n m (sym e ∙ k)), λ h. ap number (verdict-all refused answer order h) ∙ z);
-            refuses = λ k d. (λ c. subst (FirstFails order) (sym e ∙ c) f, λ g. ap number (verdict-first refused answer order k g) ∙ back k);
-            known = inr (subst (λ k. k ∈ numbers) (sym e) m);
-            keeps = λ d. q ∙ ap refused (sym e);
-          }
+  unfolding verdict
+  decided answer z [] o = answered answer z
+  decided answer z (t ∷ ts) o = tested (t .number) (o .0) (t .holds) ts _ (decided answer z ts (o .1))
 
 -- ---- the checkers
 
-module _ (lab : Labelling) (d name b : Bytes) where
+abbrev lookups : Entry LookupAnswer
+lookups = record { number = lookupNumber; refused = L.Refused; back = λ n. refl; numbers = checkerNumbers; positive = omega arith }
+
+abbrev histories : Entry HistoryAnswer
+histories = record { number = historyNumber; refused = H.Refused; back = λ n. refl; numbers = checkerNumbers; positive = omega arith }
+
+abbrev audits : Entry AuditAnswer
+audits = record { number = auditNumber; refused = A.Refused; back = λ n. refl; numbers = checkerNumbers; positive = omega arith }
+
+module _ (lab : Labelling) (d name : Bytes) where
   paths-of : (h : Head) (terms : Terms) (asked : List Asked) (ps : List Path) → Of checkerNumbers (pathTests lab name h terms asked ps)
   unfolding pathTests
   paths-of h terms [] ps = tt
@@ -98,29 +123,25 @@ module _ (lab : Labelling) (d name b : Bytes) where
   gives-zero zero t c = refl
   gives-zero (suc v) t c = refl
 
-  lookup-read : (i : Bool) (m : Read Proof)
-      → Decided lookupNumber L.Refused (test INPUT i ∷ reading FORM m (lookupTests lab d name)) checkerNumbers (cond i (lookupRead lab name d m) (L.Refused INPUT))
-  unfolding verdict
-  lookup-read i bad = decided lookupNumber L.Refused (λ n. refl) checkerNumbers (omega arith) (L.NotRegistered 0 0) refl _ (inl refl, (inr (inl refl), tt))
-  lookup-read i (got p r) =
-      decided lookupNumber L.Refused (λ n. refl) checkerNumbers (omega arith) _ (gives-zero (p .number) (p .head .epoch) (length (lookupStrings lab name p))) _
-      (inl refl, (inr (inl refl), proof-of _ _ p))
+  lookup-read : (m : Read Proof) → Decided lookupNumber L.Refused (reading FORM m (lookupTests lab d name)) checkerNumbers (lookupRead lab name d m)
+  lookup-read bad = stopped lookups FORM (inr (inl refl)) []
+  lookup-read (got p r) = behind lookups FORM _ _
+      (decided lookups _ (gives-zero (p .number) (p .head .epoch) (length (lookupStrings lab name p))) _ (proof-of _ _ p))
 
-  pub lookup-decided : Decided lookupNumber L.Refused (lookupOrder lab d name b) checkerNumbers (checkLookup lab d name b)
+  history-read : (m : Read Proof) → Decided historyNumber H.Refused (reading FORM m (historyTests lab d name)) checkerNumbers (historyRead lab name d m)
+  history-read bad = stopped histories FORM (inr (inl refl)) []
+  history-read (got p r) = behind histories FORM _ _
+      (decided histories _ refl _ (proof-of _ _ p))
+
+  pub lookup-decided : (b : Bytes) → Decided lookupNumber L.Refused (lookupOrder lab d name b) checkerNumbers (checkLookup lab d name b)
   unfolding checkLookup inputTests verdict
-  lookup-decided = lookup-read (eqb (length d) wide && isName name) (parse lookupField b)
+  lookup-decided b = tested lookups INPUT (inl refl) _ _ _ (lookup-read (parse lookupField b))
 
-  history-read : (i : Bool) (m : Read Proof)
-      → Decided historyNumber H.Refused (test INPUT i ∷ reading FORM m (historyTests lab d name)) checkerNumbers (cond i (historyRead lab name d m) (H.Refused INPUT))
-  unfolding verdict
-  history-read i bad = decided historyNumber H.Refused (λ n. refl) checkerNumbers (omega arith) (H.Accepted 0 0 0) refl _ (inl refl, (inr (inl refl), tt))
-  history-read i (got p r) = decided historyNumber H.Refused (λ n. refl) checkerNumbers (omega arith) _ refl _ (inl refl, (inr (inl refl), proof-of _ _ p))
-
-  pub history-decided : Decided historyNumber H.Refused (historyOrder lab d name b) checkerNumbers (checkHistory lab d name b)
+  pub history-decided : (b : Bytes) → Decided historyNumber H.Refused (historyOrder lab d name b) checkerNumbers (checkHistory lab d name b)
   unfolding checkHistory inputTests verdict
-  history-decided = history-read (eqb (length d) wide && isName name) (parse historyField b)
+  history-decided b = tested histories INPUT (inl refl) _ _ _ (history-read (parse historyField b))
 
-module _ (d d′ b : Bytes) where
+module _ (d d′ : Bytes) where
   audit-of : (a : Audit) → Of checkerNumbers (auditTests d d′ a)
   unfolding auditTests
   audit-of a =
@@ -128,35 +149,26 @@ module _ (d d′ b : Bytes) where
       let rule = inr (inr (inr (inr (inl refl)))) in
       (inr (inr (inl refl)), (inr (inr (inl refl)), (rule, (rule, (root, (root, (rule, (root, (root, tt)))))))))
 
-  audit-read : (i : Bool) (m : Read Audit) → Decided auditNumber A.Refused (test INPUT i ∷ reading FORM m (auditTests d d′)) checkerNumbers (cond i (auditRead d d′ m) (A.Refused INPUT))
-  unfolding verdict
-  audit-read i bad = decided auditNumber A.Refused (λ n. refl) checkerNumbers (omega arith) (A.Accepted 0 0 0) refl _ (inl refl, (inr (inl refl), tt))
-  audit-read i (got a r) = decided auditNumber A.Refused (λ n. refl) checkerNumbers (omega arith) _ refl _ (inl refl, (inr (inl refl), audit-of a))
+  audit-read : (m : Read Audit) → Decided auditNumber A.Refused (reading FORM m (auditTests d d′)) checkerNumbers (auditRead d d′ m)
+  audit-read bad = stopped audits FORM (inr (inl refl)) []
+  audit-read (got a r) = behind audits FORM _ _
+      (decided audits _ refl _ (audit-of a))
 
-  pub audit-decided : Decided auditNumber A.Refused (auditOrder d d′ b) checkerNumbers (checkAudit d d′ b)
+  pub audit-decided : (b : Bytes) → Decided auditNumber A.Refused (auditOrder d d′ b) checkerNumbers (checkAudit d d′ b)
   unfolding checkAudit verdict
-  audit-decided = audit-read (eqb (length d) wide && eqb (length d′) wide) (parse auditField b)
+  audit-decided b = tested audits INPUT (inl refl) _ _ _ (audit-read (parse auditField b))
 
--- the lookup checker's answer behind a test that the program makes first
-program-read : (d name b : Bytes) (c i : Bool) (m : Read Proof)
-    → Decided lookupNumber L.Refused (test INPUT c ∷ test INPUT i ∷ reading FORM m (lookupTests plain d name)) checkerNumbers
-    (cond c (cond i (lookupRead plain name d m) (L.Refused INPUT)) (L.Refused INPUT))
-unfolding verdict
-program-read d name b c i bad = decided lookupNumber L.Refused (λ n. refl) checkerNumbers (omega arith) (L.NotRegistered 0 0) refl _ (inl refl, (inl refl, (inr (inl refl), tt)))
-program-read d name b c i (got p r) =
-    decided lookupNumber L.Refused (λ n. refl) checkerNumbers (omega arith) _ (gives-zero plain d name b (p .number) (p .head .epoch) (length (lookupStrings plain name p))) _
-    (inl refl, (inl refl, (inr (inl refl), proof-of plain d name b _ _ p)))
-
--- the program prints the line of an answer that is decided so
+-- the program prints the line of the lookup checker's answer behind a test of its own
 program-decided : (b : Bytes) → (a : LookupAnswer) × (programLine b ≡ line a) × Decided lookupNumber L.Refused (programOrder b) checkerNumbers a
-unfolding programLine checkLookup inputTests verdict
+unfolding programLine
 program-decided b =
     let n : ℕ = getD b wide 0 in
     let c : Bool = leb (length b) 65536 && leb (33 + n) (length b) in
-    let d = take wide b in
-    let name = take n (drop 33 b) in
-    let m = parse lookupField (drop (33 + n) b) in
-    (cond c (checkLookup plain d name (drop (33 + n) b)) (L.Refused INPUT), line-of c _ _, program-read d name (drop (33 + n) b) c (eqb (length d) wide && isName name) m)
+    let a = checkLookup plain (take wide b) (take n (drop 33 b)) (drop (33 + n) b) in (
+      cond c a (L.Refused INPUT),
+      line-of c a (L.Refused INPUT),
+      tested lookups INPUT (inl refl) c _ a (lookup-decided plain (take wide b) (take n (drop 33 b)) (drop (33 + n) b)),
+    )
   where
     line-of : (c : Bool) (x y : LookupAnswer) → cond c (line x) (line y) ≡ line (cond c x y)
     line-of true x y = refl
@@ -167,68 +179,79 @@ program-decided b =
 start-decided : (lab : Labelling) (heads : Bytes)
     → Decided (λ x. startNumber (x .answer)) (λ n. record { answer = S.Refused n; heads = heads }) (startOrder heads) startNumbers (start lab heads)
 unfolding start
-start-decided lab heads = decided (λ x. startNumber (x .answer)) _ (λ n. refl) startNumbers (omega arith) _ refl _ (inl refl, tt)
+start-decided lab heads =
+    decided (record { number = λ x. startNumber (x .answer); refused = λ n. record { answer = S.Refused n; heads = heads }; back = λ n. refl; numbers = startNumbers; positive = omega arith })
+    _ refl _ (inl refl, tt)
 
 module _ (lab : Labelling) (records heads : Bytes) (state : State) where
-  -- of these updates and what was counted
-  publish-table : (i : Bool) (us : List Update) (m : Read (List Record))
-      → Decided (λ x. publishNumber (x .answer)) (unpublished lab records heads state)
-      (test INPUT i ∷ test INPUT true ∷ reading TABLE m (λ rs. publishTests lab records heads state rs us (map (newRecord lab rs (suc (state .epoch))) us))) publishNumbers
-      (cond i (publishTable lab records heads state us m) (unpublished lab records heads state INPUT))
-  unfolding verdict
-  publish-table i us bad = decided (λ x. publishNumber (x .answer)) _ (λ n. refl) publishNumbers (omega arith) (appended lab records heads state [] []) refl _
-      (inl refl, (inl refl, (inr (inl refl), tt)))
-  publish-table i us (got rs r) = decided (λ x. publishNumber (x .answer)) _ (λ n. refl) publishNumbers (omega arith) _ refl _
-      (inl refl, (inl refl, (inr (inl refl), (inr (inl refl), (inr (inr (inl refl)), (inr (inr (inr (inl refl))), (inr (inr (inr (inr (inl refl)))), tt)))))))
+  abbrev publishings : Entry Published
+  publishings = record { number = λ x. publishNumber (x .answer); refused = unpublished lab records heads state; back = λ n. refl; numbers = publishNumbers; positive = omega arith }
 
-  publish-read : (i : Bool) (m : Read (List Update))
+  -- of these updates and what was counted
+  publish-table : (us : List Update) (m : Read (List Record))
       → Decided (λ x. publishNumber (x .answer)) (unpublished lab records heads state)
-      (test INPUT i ∷ reading INPUT m (λ us. reading TABLE (counted records (state .count)) (λ rs. publishTests lab records heads state rs us (map (newRecord lab rs (suc (state .epoch))) us)))) publishNumbers
-      (cond i (publishBatch lab records heads state m) (unpublished lab records heads state INPUT))
-  unfolding verdict
-  publish-read i bad = decided (λ x. publishNumber (x .answer)) _ (λ n. refl) publishNumbers (omega arith) (appended lab records heads state [] []) refl _ (inl refl, (inl refl, tt))
-  publish-read i (got us r) = publish-table i us (counted records (state .count))
+      (reading TABLE m (λ rs. publishTests lab records heads state rs us (map (newRecord lab rs (suc (state .epoch))) us))) publishNumbers
+      (publishTable lab records heads state us m)
+  publish-table us bad = stopped publishings TABLE (inr (inl refl)) []
+  publish-table us (got rs r) = behind publishings TABLE _ _
+      (decided publishings _ refl _
+      (inr (inl refl), (inr (inr (inl refl)), (inr (inr (inr (inl refl))), (inr (inr (inr (inr (inl refl)))), tt)))))
+
+  publish-read : (m : Read (List Update))
+      → Decided (λ x. publishNumber (x .answer)) (unpublished lab records heads state)
+      (reading INPUT m (λ us. reading TABLE (counted records (state .count)) (λ rs. publishTests lab records heads state rs us (map (newRecord lab rs (suc (state .epoch))) us)))) publishNumbers
+      (publishBatch lab records heads state m)
+  publish-read bad = stopped publishings INPUT (inl refl) []
+  publish-read (got us r) = behind publishings INPUT _ _ (publish-table us (counted records (state .count)))
 
   publish-decided : (batch : Bytes)
       → Decided (λ x. publishNumber (x .answer)) (unpublished lab records heads state) (publishOrder lab records heads state batch) publishNumbers (publish lab records heads state batch)
   unfolding publish verdict
-  publish-decided batch = publish-read (recordsWithin records && (headsWithin heads && batchWithin batch)) (parse (times (length batch / updateSize) updateField) batch)
+  publish-decided batch =
+      tested publishings INPUT (inl refl) _ _ _ (publish-read (parse (times (length batch / updateSize) updateField) batch))
 
   -- ---- the writers
 
-  module _ (out : Bytes) where
-    write-read : (i : Bool) (t : ℕ) (clear : List Record → Bool) (proof : List Record → Bytes) (m : Read (List Record))
-        → Decided (λ x. writeNumber (x .answer)) (unwritten lab records heads state out)
-        (test INPUT i ∷ reading TABLE m (λ rs.
+  module _ (out : Bytes) (t : ℕ) (clear : List Record → Bool) (proof : List Record → Bytes) where
+    abbrev writings : Entry Written
+    writings = record { number = λ x. writeNumber (x .answer); refused = unwritten lab records heads state out; back = λ n. refl; numbers = writerNumbers; positive = omega arith }
+
+    abbrev writerTests : List Record → List Test
+    writerTests rs =
         test TABLE (headLies heads (state .epoch) && inShape lab (state .epoch) [] rs)
         ∷ test EPOCH (leb t (state .epoch))
         ∷ test CLASH (clear rs)
         ∷ test ROOM (leb (length (proof rs)) (length out))
-        ∷ [])) writerNumbers
-        (cond i (writeRead lab records heads state out t clear proof m) (unwritten lab records heads state out INPUT))
-    unfolding verdict
-    write-read i t clear proof bad = decided (λ x. writeNumber (x .answer)) _ (λ n. refl) writerNumbers (omega arith) (record { answer = W.Written 0 state; out = out }) refl _ (inl refl, (inr (inl refl), tt))
-    write-read i t clear proof (got rs r) = decided (λ x. writeNumber (x .answer)) _ (λ n. refl) writerNumbers (omega arith) _ refl _
-        (inl refl, (inr (inl refl), (inr (inl refl), (inr (inr (inl refl)), (inr (inr (inr (inl refl))), (inr (inr (inr (inr (inl refl)))), tt))))))
+        ∷ []
+
+    write-read : (m : Read (List Record))
+        → Decided (λ x. writeNumber (x .answer)) (unwritten lab records heads state out) (reading TABLE m writerTests) writerNumbers (writeRead lab records heads state out t clear proof m)
+    write-read bad = stopped writings TABLE (inr (inl refl)) []
+    write-read (got rs r) = behind writings TABLE _ _
+        (decided writings _ refl (writerTests rs)
+        (inr (inl refl), (inr (inr (inl refl)), (inr (inr (inr (inl refl))), (inr (inr (inr (inr (inl refl)))), tt)))))
 
     -- the three writers are this one, each with its test of its arguments and of the trees, and its proof
-    writer-decided : (input : Bool) (t : ℕ) (clear : List Record → Bool) (proof : List Record → Bytes)
+    writer-decided : (input : Bool)
         → Decided (λ x. writeNumber (x .answer)) (unwritten lab records heads state out) (writerOrder lab records heads state out input t clear proof) writerNumbers
         (writeWith lab records heads state out input t clear proof)
     unfolding writeWith verdict
-    writer-decided input t clear proof = write-read (recordsWithin records && (headsWithin heads && input)) t clear proof (counted records (state .count))
+    writer-decided input = tested writings INPUT (inl refl) _ _ _ (write-read (counted records (state .count)))
 
 -- ---- the tree level
+
+abbrev layings : Bytes → Entry Laid
+layings out = record { number = λ x. treeNumber (x .answer); refused = λ n. record { answer = T.Refused n; out = out }; back = λ n. refl; numbers = treeNumbers; positive = omega arith }
 
 tree-root-decided : (entries out : Bytes)
     → Decided (λ x. treeNumber (x .answer)) (λ n. record { answer = T.Refused n; out = out }) (treeRootOrder entries out) treeNumbers (treeRoot entries out)
 unfolding treeRoot laid
-tree-root-decided entries out = decided (λ x. treeNumber (x .answer)) _ (λ n. refl) treeNumbers (omega arith) _ refl _ (inl refl, (inr (inl refl), (inr (inr (inl refl)), tt)))
+tree-root-decided entries out = decided (layings out) _ refl _ (inl refl, (inr (inl refl), (inr (inr (inl refl)), tt)))
 
 tree-path-decided : (entries label : Bytes) (absent : Bool) (out : Bytes)
     → Decided (λ x. treeNumber (x .answer)) (λ n. record { answer = T.Refused n; out = out }) (treePathOrder entries label absent out) treeNumbers (treePath entries label absent out)
 unfolding treePath laid
-tree-path-decided entries label absent out = decided (λ x. treeNumber (x .answer)) _ (λ n. refl) treeNumbers (omega arith) _ refl _ (inl refl, (inr (inl refl), (inr (inr (inl refl)), tt)))
+tree-path-decided entries label absent out = decided (layings out) _ refl _ (inl refl, (inr (inl refl), (inr (inr (inl refl)), tt)))
 
 -- ---- gathered
 
@@ -241,9 +264,9 @@ demand-1 lab = record {
   program-line = program-decided;
   starts = start-decided lab;
   publishes = publish-decided lab;
-  write-lookup = λ records heads state out name t. writer-decided lab records heads state out _ t _ _;
-  write-history = λ records heads state out name t. writer-decided lab records heads state out _ t _ _;
-  write-audit = λ records heads state out t. writer-decided lab records heads state out _ t _ _;
+  write-lookup = λ records heads state out name t. writer-decided lab records heads state out t _ _ _;
+  write-history = λ records heads state out name t. writer-decided lab records heads state out t _ _ _;
+  write-audit = λ records heads state out t. writer-decided lab records heads state out t _ _ _;
   tree-root = tree-root-decided;
   tree-path = tree-path-decided;
 }
