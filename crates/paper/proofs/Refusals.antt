@@ -125,13 +125,11 @@ module _ (lab : Labelling) (d name : Bytes) where
 
   lookup-read : (m : Read Proof) → Decided lookupNumber L.Refused (reading FORM m (lookupTests lab d name)) checkerNumbers (lookupRead lab name d m)
   lookup-read bad = stopped lookups FORM (inr (inl refl)) []
-  lookup-read (got p r) = behind lookups FORM _ _
-      (decided lookups _ (gives-zero (p .number) (p .head .epoch) (length (lookupStrings lab name p))) _ (proof-of _ _ p))
+  lookup-read (got p r) = behind lookups FORM _ _ (decided lookups _ (gives-zero (p .number) (p .head .epoch) (length (lookupStrings lab name p))) _ (proof-of _ _ p))
 
   history-read : (m : Read Proof) → Decided historyNumber H.Refused (reading FORM m (historyTests lab d name)) checkerNumbers (historyRead lab name d m)
   history-read bad = stopped histories FORM (inr (inl refl)) []
-  history-read (got p r) = behind histories FORM _ _
-      (decided histories _ refl _ (proof-of _ _ p))
+  history-read (got p r) = behind histories FORM _ _ (decided histories _ refl _ (proof-of _ _ p))
 
   pub lookup-decided : (b : Bytes) → Decided lookupNumber L.Refused (lookupOrder lab d name b) checkerNumbers (checkLookup lab d name b)
   unfolding checkLookup inputTests verdict
@@ -151,8 +149,7 @@ module _ (d d′ : Bytes) where
 
   audit-read : (m : Read Audit) → Decided auditNumber A.Refused (reading FORM m (auditTests d d′)) checkerNumbers (auditRead d d′ m)
   audit-read bad = stopped audits FORM (inr (inl refl)) []
-  audit-read (got a r) = behind audits FORM _ _
-      (decided audits _ refl _ (audit-of a))
+  audit-read (got a r) = behind audits FORM _ _ (decided audits _ refl _ (audit-of a))
 
   pub audit-decided : (b : Bytes) → Decided auditNumber A.Refused (auditOrder d d′ b) checkerNumbers (checkAudit d d′ b)
   unfolding checkAudit verdict
@@ -207,8 +204,7 @@ module _ (lab : Labelling) (records heads : Bytes) (state : State) where
   publish-decided : (batch : Bytes)
       → Decided (λ x. publishNumber (x .answer)) (unpublished lab records heads state) (publishOrder lab records heads state batch) publishNumbers (publish lab records heads state batch)
   unfolding publish verdict
-  publish-decided batch =
-      tested publishings INPUT (inl refl) _ _ _ (publish-read (parse (times (length batch / updateSize) updateField) batch))
+  publish-decided batch = tested publishings INPUT (inl refl) _ _ _ (publish-read (parse (times (length batch / updateSize) updateField) batch))
 
   -- ---- the writers
 
