@@ -46,3 +46,9 @@ pub mod Marker
 pub mod Verdicts
 pub mod Fits
 pub mod Counts
+pub mod Refusals
+pub mod Reflect
+pub mod Each
+pub mod Checked
+pub mod PathRules
+pub mod Exact

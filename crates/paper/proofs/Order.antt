@@ -9,14 +9,10 @@ use Rattle.paper.specs.Bits.{Bits, Pfx, starts, _▹_, lcp}
 use Rattle.paper.specs.Strings.{Node}
 use Rattle.paper.specs.Tree.{key}
 use Rattle.paper.specs.Audit.{before?}
+pub use Rattle.paper.specs.Rules.{Before}
 use Rattle.paper.proofs.Lists.{and-left, and-right, and-both}
 use Rattle.paper.proofs.Bits.{pfx-trans, pfx-snoc, pfx-next, pfx-compare, pfx-one-way, starts-pfx, pfx-starts, lcp-left, lcp-right, lcp-most}
 use Rattle.paper.proofs.Tree.{Apart, Free}
-
-pub record Before (x y : Bits) : Type 0 where
-  pub at : Bits
-  pub low : Pfx (at ▹ false) x
-  pub high : Pfx (at ▹ true) y
 
 -- they part at their longest common prefix
 pub before-lcp : (x y : Bits) (b : Before x y) → b .at ≡ lcp x y

@@ -1,30 +1,50 @@
 -- What a verdict over tests in order comes to. Assumes nothing.
 use mathlib.Core.Path.{_≡_, refl, sym, ap, _∙_, subst}
-use mathlib.Core.Logic.{_⊎_, inl, inr, ⊎-elim}
+use mathlib.Core.Logic.{_⊎_, inl, inr, ⊎-elim, _↔_}
 use mathlib.Core.Bool.{Bool, true, false, cond}
 use mathlib.Core.List.{List, [], _∷_, _++_}
 use Prim.Native.Nat.{ℕ, _<_}
 use native.Mathlib.Omega.{arith}
 use Rattle.paper.specs.Lists.{_∈_, All}
 use Rattle.paper.specs.Verdict.{Test, verdict}
+pub use Rattle.paper.specs.Verdict.{Hold, FirstFails}
 use Rattle.paper.proofs.Lists.{all-in, in-right}
-
-abbrev pub Hold : List Test → Type 0
-Hold = All (λ t. t .holds ≡ true)
 
 -- every test has a number that says no
 abbrev pub Numbered : List Test → Type 0
 Numbered = All (λ t. 0 < t .number)
 
--- the first of the tests that fails, behind those that hold
-pub record FirstFails (ts : List Test) (n : ℕ) : Type 0 where
-  pub passed : List Test
-  pub failed : Test
-  pub rest : List Test
-  pub split : passed ++ (failed ∷ rest) ≡ ts
-  pub hold : Hold passed
-  pub fails : failed .holds ≡ false
-  pub number : failed .number ≡ n
+-- no test fails where there is none
+pub no-first : (n : ℕ) → FirstFails [] n → ⊥
+no-first n f = none (f .passed) (f .split)
+  where
+    none : (ps : List Test) → ps ++ (f .failed ∷ f .rest) ≡ [] → ⊥
+    none [] e = let z : _≡_ {A = ℕ} 0 1 = cc in omega arith
+    none (p ∷ ps) e = let z : _≡_ {A = ℕ} 0 1 = cc in omega arith
+
+-- the first of the tests that fails is the first test, or the first of the others
+pub first-cons : (t : Test) (ts : List Test) (n : ℕ) → FirstFails (t ∷ ts) n ↔ (((t .holds ≡ false) × (t .number ≡ n)) ⊎ ((t .holds ≡ true) × FirstFails ts n))
+first-cons t ts n = (λ f. to (f .passed) f refl, ⊎-elim here later)
+  where
+    Goal : Type 0
+    Goal = ((t .holds ≡ false) × (t .number ≡ n)) ⊎ ((t .holds ≡ true) × FirstFails ts n)
+
+    to : (ps : List Test) (f : FirstFails (t ∷ ts) n) → f .passed ≡ ps → Goal
+    to [] f e =
+        let s : f .failed ∷ f .rest ≡ t ∷ ts = ap (λ l. l ++ (f .failed ∷ f .rest)) (sym e) ∙ f .split in
+        let q : f .failed ≡ t = cc in
+        inl (ap (λ u. u .holds) (sym q) ∙ f .fails, ap (λ u. u .number) (sym q) ∙ f .number)
+    to (p ∷ ps) f e =
+        let s : p ∷ (ps ++ (f .failed ∷ f .rest)) ≡ t ∷ ts = ap (λ l. l ++ (f .failed ∷ f .rest)) (sym e) ∙ f .split in
+        let q : p ≡ t = cc in
+        let h : Hold (p ∷ ps) = subst Hold e (f .hold) in
+        inr (ap (λ u. u .holds) (sym q) ∙ h .0, record { passed = ps; failed = f .failed; rest = f .rest; split = cc; hold = h .1; fails = f .fails; number = f .number })
+
+    here : (t .holds ≡ false) × (t .number ≡ n) → FirstFails (t ∷ ts) n
+    here (e, q) = record { passed = []; failed = t; rest = ts; split = refl; hold = tt; fails = e; number = q }
+
+    later : (t .holds ≡ true) × FirstFails ts n → FirstFails (t ∷ ts) n
+    later (e, f) = record { passed = t ∷ f .passed; failed = f .failed; rest = f .rest; split = ap (λ l. t ∷ l) (f .split); hold = (e, f .hold); fails = f .fails; number = f .number }
 
 module _ {A : Type 0} (refuse : ℕ → A) (answer : A) where
   -- all hold, and it is the answer; or one is the first that fails, and it is the refusal with that number

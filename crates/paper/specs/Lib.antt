@@ -14,6 +14,8 @@ pub mod Shows
 pub mod Lookup
 pub mod History
 pub mod Audit
+pub mod Rules
+pub mod Broken
 pub mod Table
 pub mod Publish
 pub mod Write
@@ -25,3 +27,4 @@ pub mod Level
 pub mod Answer
 pub mod Program
 pub mod Arrow
+pub mod Refusals
