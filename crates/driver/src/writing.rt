@@ -1,0 +1,145 @@
+// The calls of the three writers. Tables and name lie in the space; the proof is written to the spare room, of which the request says how
+// much is lent.
+use crate::print::print_bytes;
+use crate::print::print_refused;
+use crate::print::print_text;
+use crate::space::read_at;
+use paper::State;
+use paper::WriteAnswer;
+use wire::Field;
+use wire::Number32;
+use wire::Request;
+ghost use Prim.Native.Nat.{_≤_};
+ghost use lib.ListN.{length};
+ghost use Rattle.driver.specs.Space.{Spacious, Roomy, Inside};
+
+// 12: a lookup proof. 13: a history proof. 14: an audit proof, which has no name.
+fn written(
+    call: u8,
+    records: &[u8],
+    heads: &[u8],
+    state: State,
+    name: &[u8],
+    epoch: u32,
+    out: &mut [u8],
+) -> WriteAnswer
+    ensures { λ r. ⌜ Inside r (now (out .exit)) ⌝ }
+{
+    match call {
+        12 => write_proof::write_lookup(records, heads, state, name, epoch, out),
+        13 => write_proof::write_history(records, heads, state, name, epoch, out),
+        _ => write_audit::write_audit(records, heads, state, epoch, out),
+    }
+}
+
+// The proof that was written.
+fn answer_write(
+    call: u8,
+    records: &[u8],
+    heads: &[u8],
+    state: State,
+    name: &[u8],
+    epoch: u32,
+    out: &mut [u8],
+) {
+    match written(call, records, heads, state, name, epoch, out) {
+        WriteAnswer::Written { length, state: _ } => {
+            print_bytes(&out[0..length]);
+            print_text(b"\n");
+        }
+        WriteAnswer::Refused { number, state: _ } => print_refused(number),
+    }
+}
+
+// How many bytes both tables have in the space, and the state. The bounds are 4,096 records and 65,536 heads, and there is room for one more of each.
+pub struct Tables {
+    pub records: usize,
+    pub heads: usize,
+    pub state: State,
+    pub rest: Request,
+}
+
+fn read_tables(r: Request, space: &mut [u8]) -> Tables
+    requires { ⌜ Spacious (now space) ⌝ }
+    ensures { λ t. ⌜ (t .records ≤ 688296) × (t .heads ≤ 2097184) ⌝ }
+{
+    let f = read_at(r, space, 256, 688296);
+    let g = read_at(f.rest, space, 688552, 2097184);
+    let count = wire::read_number32(g.rest);
+    let epoch = wire::read_number32(count.rest);
+    let state = State {
+        count: count.value,
+        epoch: epoch.value,
+    };
+    let rest = epoch.rest;
+    Tables {
+        records: f.length,
+        heads: g.length,
+        state,
+        rest,
+    }
+}
+
+// A name of up to 256 bytes, at the space's start; an audit has none.
+fn read_name(call: u8, r: Request, space: &mut [u8]) -> Field
+    requires { ⌜ Spacious (now space) ⌝ }
+    ensures { λ f. ⌜ f .length ≤ 256 ⌝ }
+{
+    if call == 14 {
+        return Field { length: 0, rest: r };
+    }
+    read_at(r, space, 0, 256)
+}
+
+// How many bytes of the spare room are lent. It has no more than a million, and then the request is not readable.
+fn read_room(r: Request) -> Number32
+    ensures { λ x. ⌜ x .value ≤ 1000000 ⌝ }
+{
+    let room = wire::read_number32(r);
+    if 1000000 < room.value {
+        return Number32 {
+            value: 0,
+            rest: wire::spoilt(room.rest),
+        };
+    }
+    room
+}
+
+// Tables and name as parts of the space.
+fn answer_from(call: u8, space: &[u8], t: Tables, name: usize, epoch: u32, out: &mut [u8])
+    requires { ⌜ Spacious (now space) × (t .records ≤ 688296) × (t .heads ≤ 2097184) × (name ≤ 256) ⌝ }
+{
+    let k = 256 + t.records;
+    let m = 688552 + t.heads;
+    answer_write(
+        call,
+        &space[256..k],
+        &space[688552..m],
+        t.state,
+        &space[0..name],
+        epoch,
+        out,
+    );
+}
+
+pub(crate) fn call_write(call: u8, r: Request, space: &mut [u8], spare: &mut [u8]) -> Request
+    requires { ⌜ Spacious (now space) × Roomy (now spare) ⌝ }
+{
+    let t = read_tables(r, space);
+    let name = read_name(call, t.rest, space);
+    let epoch = wire::read_number32(name.rest);
+    let room = read_room(epoch.rest);
+    let size = room.value as usize;
+    let rest = room.rest;
+    if wire::whole(rest) {
+        answer_from(
+            call,
+            space,
+            t,
+            name.length,
+            epoch.value,
+            &mut spare[0..size],
+        );
+    }
+    rest
+}
