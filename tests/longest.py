@@ -22,8 +22,8 @@ TOO_LONG = [
     ("publish", [b"", bytes(2097185), 0, 0, b""]),
     ("publish", [b"", b"", 0, 0, bytes(41635)]),
 ]
-CASES = [*cases.longest(), *server_cases.longest(driver.NOT_YET)]
-CASES += [(call, values, "bad") for call, values in TOO_LONG if call not in driver.NOT_YET]
+CASES = [*cases.longest(), *server_cases.longest()]
+CASES += [(call, values, "bad") for call, values in TOO_LONG]
 got = driver.answers([driver.call_request(call, values) for call, values, _ in CASES])
 for (call, _, expected), line in zip(CASES, got):
     if line != expected:

@@ -1,5 +1,7 @@
 """Requests for the three writers: each name and epoch of directories that were published, outputs of the right length and around it, and the
 tables and states of tests/publish_cases.py that are out of bounds or out of shape."""
+import itertools
+
 import publish_cases
 import server
 import writers
@@ -30,7 +32,7 @@ def directories():
     yield left(run(14, 10, [batch(*x) for x in steps])), names
     yield left(run(9, 11, [batch(b"ada") for _ in range(9)])), [b"ada", b"bo"]
     long = b"n" * 64
-    yield left(run(3, 4, [update(long, b"k" * 64, b"\xff" * 32), update(long, b"k")])), [long, long[1:]]
+    yield left(run(2, 4, [update(long, b"k" * 64, b"\xff" * 32), update(long, b"k")])), [long, long[1:]]
 
 
 def proofs(tables, names):
@@ -66,12 +68,29 @@ def other_tables():
         yield call, [records, heads, count, epoch, *([b"ada"] if call != "write_audit" else []), min(epoch, 1), ROOM]
 
 
+def examples():
+    """A small directory: each answer that is no proof, and some that are."""
+    records, heads, count, epoch = left(run(3, 4, [batch(b"ada"), batch(b"bo"), batch(b"ada")]))
+    tables = [records, heads, count, epoch]
+    broken = [tables, [records[:-1], heads, count, epoch], [records, heads, count + 1, epoch], [records, heads, count, epoch + 1]]
+    for call in ("write_lookup", "write_history"):
+        for name, at in itertools.product((b"ada", b"bo", b"zed", b"a b"), (0, 1, 3, 4)):
+            yield call, [*tables, name, at, ROOM]
+        for given in broken:
+            yield call, [*given, b"ada", 3, 108]
+    for at in range(5):
+        yield "write_audit", [*tables, at, ROOM]
+    for given in broken:
+        yield "write_audit", [*given, 3, 214]
+
+
 def given():
     for tables, names in directories():
         yield from proofs(tables, names)
         yield from rooms(tables, names[0])
         yield from bad_names(tables)
     yield from other_tables()
+    yield from examples()
 
 
 def at_bounds():

@@ -12,7 +12,7 @@ Spacious s = length s ≡ 3277312
 
 -- a proof, or a table of records
 abbrev pub Roomy : List ℕ → Type 0
-Roomy s = length s ≡ 1000000
+Roomy s = length s ≡ 1200000
 
 -- how much a writer says it wrote, which lies in its output
 abbrev pub writtenSize : WriteAnswer → ℕ

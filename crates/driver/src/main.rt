@@ -23,6 +23,7 @@ use space::read_at;
 use wire::Next;
 use wire::Request;
 use writing::call_write;
+use writing::call_write_audit;
 ghost use Rattle.driver.specs.Space.{Spacious, Roomy};
 
 // 1: the digest of data of up to 65,536 bytes.
@@ -188,8 +189,19 @@ fn called(call: u8, r: Request, space: &mut [u8], spare: &mut [u8]) -> Request
         9 => call_tree_path(r, space),
         10 => call_start(r, space),
         11 => call_publish(r, space, spare),
-        12 | 13 | 14 => call_write(call, r, space, spare),
+        14 => call_write_audit(r, space, spare),
         _ => wire::spoilt(r),
+    }
+}
+
+// Lookup and history proofs are written beside the other calls. The compiler joins the frames of those in one, an audit writer's arrays with them,
+// and these would come on top.
+fn answered(call: u8, r: Request, space: &mut [u8], spare: &mut [u8]) -> Request
+    requires { ⌜ Spacious (now space) × Roomy (now spare) ⌝ }
+{
+    match call {
+        12 | 13 => call_write(call, r, space, spare),
+        _ => called(call, r, space, spare),
     }
 }
 
@@ -200,7 +212,7 @@ fn turn(space: &mut [u8], spare: &mut [u8]) -> bool
     let Next::Call(call, r) = wire::next_request() else {
         return false;
     };
-    let rest = called(call, r, space, spare);
+    let rest = answered(call, r, space, spare);
     if !wire::whole(rest) {
         print_text(b"bad\n");
         wire::skip_rest(rest);

@@ -10,9 +10,10 @@ pub(crate) fn blank() -> [u8; 3277312] {
     [0; 3277312]
 }
 
-// A second room, for what is written beside fields that are read or written: a proof, or the records of a table.
-pub(crate) fn blank_spare() -> [u8; 1000000] {
-    [0; 1000000]
+// A second room, for what is written beside fields that lie in the space: a proof, or the records of a table. Of a table of 4,096 records, with the
+// longest keys, a history of 1,023 versions has some 1,046,000 bytes.
+pub(crate) fn blank_spare() -> [u8; 1200000] {
+    [0; 1200000]
 }
 
 // Reads a field of up to so many bytes into the space, from place `at` on.

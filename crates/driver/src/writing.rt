@@ -6,14 +6,18 @@ use crate::print::print_text;
 use crate::space::read_at;
 use paper::State;
 use paper::WriteAnswer;
-use wire::Field;
-use wire::Number32;
 use wire::Request;
 ghost use Prim.Native.Nat.{_≤_};
 ghost use lib.ListN.{length};
 ghost use Rattle.driver.specs.Space.{Spacious, Roomy, Inside};
 
-// 12: a lookup proof. 13: a history proof. 14: an audit proof, which has no name.
+// A proof that was written.
+fn print_proof(proof: &[u8]) {
+    print_bytes(proof);
+    print_text(b"\n");
+}
+
+// 12: a lookup proof. 13: a history proof.
 fn written(
     call: u8,
     records: &[u8],
@@ -27,12 +31,10 @@ fn written(
 {
     match call {
         12 => write_proof::write_lookup(records, heads, state, name, epoch, out),
-        13 => write_proof::write_history(records, heads, state, name, epoch, out),
-        _ => write_audit::write_audit(records, heads, state, epoch, out),
+        _ => write_proof::write_history(records, heads, state, name, epoch, out),
     }
 }
 
-// The proof that was written.
 fn answer_write(
     call: u8,
     records: &[u8],
@@ -43,10 +45,15 @@ fn answer_write(
     out: &mut [u8],
 ) {
     match written(call, records, heads, state, name, epoch, out) {
-        WriteAnswer::Written { length, state: _ } => {
-            print_bytes(&out[0..length]);
-            print_text(b"\n");
-        }
+        WriteAnswer::Written { length, state: _ } => print_proof(&out[0..length]),
+        WriteAnswer::Refused { number, state: _ } => print_refused(number),
+    }
+}
+
+// 14: an audit proof.
+fn answer_audit(records: &[u8], heads: &[u8], state: State, epoch: u32, out: &mut [u8]) {
+    match write_audit::write_audit(records, heads, state, epoch, out) {
+        WriteAnswer::Written { length, state: _ } => print_proof(&out[0..length]),
         WriteAnswer::Refused { number, state: _ } => print_refused(number),
     }
 }
@@ -80,33 +87,18 @@ fn read_tables(r: Request, space: &mut [u8]) -> Tables
     }
 }
 
-// A name of up to 256 bytes, at the space's start; an audit has none.
-fn read_name(call: u8, r: Request, space: &mut [u8]) -> Field
-    requires { ⌜ Spacious (now space) ⌝ }
-    ensures { λ f. ⌜ f .length ≤ 256 ⌝ }
+// How much of the spare room is lent: what the request says, and no more than there is.
+fn lent(room: u32) -> usize
+    ensures { λ n. ⌜ n ≤ 1200000 ⌝ }
 {
-    if call == 14 {
-        return Field { length: 0, rest: r };
+    if 1200000 < room {
+        return 1200000;
     }
-    read_at(r, space, 0, 256)
-}
-
-// How many bytes of the spare room are lent. It has no more than a million, and then the request is not readable.
-fn read_room(r: Request) -> Number32
-    ensures { λ x. ⌜ x .value ≤ 1000000 ⌝ }
-{
-    let room = wire::read_number32(r);
-    if 1000000 < room.value {
-        return Number32 {
-            value: 0,
-            rest: wire::spoilt(room.rest),
-        };
-    }
-    room
+    room as usize
 }
 
 // Tables and name as parts of the space.
-fn answer_from(call: u8, space: &[u8], t: Tables, name: usize, epoch: u32, out: &mut [u8])
+fn write_from(call: u8, space: &[u8], t: Tables, name: usize, epoch: u32, out: &mut [u8])
     requires { ⌜ Spacious (now space) × (t .records ≤ 688296) × (t .heads ≤ 2097184) × (name ≤ 256) ⌝ }
 {
     let k = 256 + t.records;
@@ -122,17 +114,18 @@ fn answer_from(call: u8, space: &[u8], t: Tables, name: usize, epoch: u32, out: 
     );
 }
 
+// A name of up to 256 bytes stands at the space's start.
 pub(crate) fn call_write(call: u8, r: Request, space: &mut [u8], spare: &mut [u8]) -> Request
     requires { ⌜ Spacious (now space) × Roomy (now spare) ⌝ }
 {
     let t = read_tables(r, space);
-    let name = read_name(call, t.rest, space);
+    let name = read_at(t.rest, space, 0, 256);
     let epoch = wire::read_number32(name.rest);
-    let room = read_room(epoch.rest);
-    let size = room.value as usize;
+    let room = wire::read_number32(epoch.rest);
+    let size = lent(room.value);
     let rest = room.rest;
     if wire::whole(rest) {
-        answer_from(
+        write_from(
             call,
             space,
             t,
@@ -140,6 +133,29 @@ pub(crate) fn call_write(call: u8, r: Request, space: &mut [u8], spare: &mut [u8
             epoch.value,
             &mut spare[0..size],
         );
+    }
+    rest
+}
+
+// The same without a name.
+fn audit_from(space: &[u8], t: Tables, epoch: u32, out: &mut [u8])
+    requires { ⌜ Spacious (now space) × (t .records ≤ 688296) × (t .heads ≤ 2097184) ⌝ }
+{
+    let k = 256 + t.records;
+    let m = 688552 + t.heads;
+    answer_audit(&space[256..k], &space[688552..m], t.state, epoch, out);
+}
+
+pub(crate) fn call_write_audit(r: Request, space: &mut [u8], spare: &mut [u8]) -> Request
+    requires { ⌜ Spacious (now space) × Roomy (now spare) ⌝ }
+{
+    let t = read_tables(r, space);
+    let epoch = wire::read_number32(t.rest);
+    let room = wire::read_number32(epoch.rest);
+    let size = lent(room.value);
+    let rest = room.rest;
+    if wire::whole(rest) {
+        audit_from(space, t, epoch.value, &mut spare[0..size]);
     }
     rest
 }

@@ -5,7 +5,7 @@ use Rattle.driver.specs.Space.{Inside}
 use Rattle.driver.proofs.writing.answer_write.Statement.{statement}
 use Rattle.driver.proofs.writing.answer_write.Tie as tie
 
-within : tie.Need-part-print-bytes-end
+within : tie.Need-part-print-proof-end
 within c =
     let w = c .before .before .before .before .before .before .written in
     subst (λ r. Inside r (w .last .1 .1 .1 .1 .1 .1 .0)) (c .before .before .length .given .1) (w .ensures)
@@ -19,8 +19,6 @@ answer-write-spec =
     (λ c. search needs)
     (λ c. search needs)
     within
-    (λ c κs. search needs)
-    (λ c. search needs)
     (λ c κs. search needs)
     (λ c. search needs)
     (λ c κs. search needs)

@@ -16,22 +16,5 @@ returns-2 c =
     let a = c .before .before .before .before .before .before .before .before .before .args in
     proof-within (a .records .now) (a .heads .now) (a .state) (a .out .now) (l .result) (l .last .1 .1 .1 .1 .1 .0) _ (l .ensures) (write-within _ _ _ _ _ _ _ _) (l .kept .1 .1 .1 .1 .1 .0)
 
-returns-3 : tie.Need-returns-3
-returns-3 c =
-    let l = c .before .before .write-audit in
-    let a = c .before .before .before .before .before .before .before .before .before .args in
-    proof-within (a .records .now) (a .heads .now) (a .state) (a .out .now) (l .result) (l .last .1 .1 .1 .1 .0) _ (l .ensures) (write-within _ _ _ _ _ _ _ _) (l .kept .1 .1 .1 .1 .0)
-
 pub written-spec : {M : Type 1} → statement M
-written-spec =
-    tie.close
-    (tie.spec
-    (λ c κs. search needs)
-    (λ c κs. search needs)
-    (λ c κs. search needs)
-    (λ c. search needs)
-    returns
-    (λ c. search needs)
-    returns-2
-    (λ c. search needs)
-    returns-3)
+written-spec = tie.close (tie.spec (λ c κs. search needs) (λ c κs. search needs) (λ c. search needs) returns (λ c. search needs) returns-2)
