@@ -6,7 +6,7 @@ import publish_cases
 import server
 import writers
 from answer import Refused
-from publish_cases import batch, run, update
+from publish_cases import batch, record, run, update
 
 ROOM = 100000  # more than any proof here has
 LAST = 2**32 - 1
@@ -94,11 +94,18 @@ def given():
 
 
 def at_bounds():
-    """A history of 1,023 versions, and a table of 4,096 records."""
-    yield "write_history", [publish_cases.VERSIONS, publish_cases.HEADS, 1023, 1023, b"ada", 1023, 10**6]
-    yield "write_lookup", [publish_cases.VERSIONS, publish_cases.HEADS, 1023, 1023, b"ada", 1023, 10**6]
-    yield "write_audit", [publish_cases.VERSIONS, publish_cases.HEADS, 1023, 1023, 1023, 10**6]
-    records = publish_cases.table([(b"n%d" % i, 1, 1) for i in range(4096)], 4096)
-    yield "write_lookup", [records, bytes(64), 4096, 1, b"n7", 1, ROOM]
-    yield "write_history", [records, bytes(64), 4096, 1, b"n7", 1, ROOM]
-    yield "write_audit", [records, bytes(64), 4096, 1, 1, 10**6]
+    """A name of 1,023 versions, alone and with others of as many, tables of 4,096 records, and an audit of 256 updates."""
+    alone = [publish_cases.VERSIONS, publish_cases.HEADS, 1023, 1023]
+    yield "write_history", [*alone, b"ada", 1023, LAST]
+    yield "write_lookup", [*alone, b"ada", 1023, LAST]
+    yield "write_audit", [*alone, 1023, LAST]
+    names = [b"ada", b"bo", b"eve", b"fay"]
+    records = b"".join(record(name, v, v, b"k" * 64) for v in range(1, 1024) for name in names)
+    yield "write_history", [records, publish_cases.HEADS, 4092, 1023, b"ada", 1023, LAST]
+    new = [(b"n%d" % i, 1, 1) for i in range(4096)]
+    replaced = new[:3840] + [(name, 2, 2) for name, _, _ in new[:256]]
+    for rows, at in (new, 1), (replaced, 2):
+        tables = [publish_cases.table(rows, 4096), bytes(96), 4096, at]
+        yield "write_lookup", [*tables, b"n7", at, LAST]
+        yield "write_history", [*tables, b"n7", at, LAST]
+        yield "write_audit", [*tables, at, LAST]
