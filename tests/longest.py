@@ -23,7 +23,7 @@ TOO_LONG = [
     ("publish", [b"", b"", 0, 0, bytes(41635)]),
     ("write_lookup", [bytes(688297), b"", 0, 0, b"", 0, 0]),
     ("write_lookup", [b"", bytes(2097185), 0, 0, b"", 0, 0]),
-    ("write_history", [b"", b"", 0, 0, bytes(257), 0, 0]),
+    ("write_history", [b"", b"", 0, 0, bytes(1025), 0, 0]),
     ("write_audit", [bytes(688297), b"", 0, 0, 0, 0]),
 ]
 CASES = [*cases.longest(), *server_cases.longest()]

@@ -30,7 +30,7 @@ HEADINGS = {
 }
 
 
-SAMPLED = 600  # a case with more bytes than these is none of the driver's sample, which would have 3 MB with all; tests/longest.py puts it
+SAMPLED = 600  # a case with more bytes than these is none of the driver's sample, which would have 4 MB with all; tests/longest.py puts it
 
 
 def answered(*groups):

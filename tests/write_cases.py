@@ -54,7 +54,7 @@ def rooms(tables, name):
 
 
 def bad_names(tables):
-    for name in (b"", b"a b", b"\x7f", b"n" * 65):
+    for name in (b"", b"a b", b"\x7f", b"n" * 65, b"n" * 1024):
         yield "write_lookup", [*tables, name, 1, ROOM]
         yield "write_history", [*tables, name, 1, ROOM]
 

@@ -8,7 +8,6 @@ use paper::State;
 use paper::WriteAnswer;
 use wire::Request;
 ghost use Prim.Native.Nat.{_≤_};
-ghost use lib.ListN.{length};
 ghost use Rattle.driver.specs.Space.{Spacious, Roomy, Inside};
 
 // A proof that was written.
@@ -70,8 +69,8 @@ fn read_tables(r: Request, space: &mut [u8]) -> Tables
     requires { ⌜ Spacious (now space) ⌝ }
     ensures { λ t. ⌜ (t .records ≤ 688296) × (t .heads ≤ 2097184) ⌝ }
 {
-    let f = read_at(r, space, 256, 688296);
-    let g = read_at(f.rest, space, 688552, 2097184);
+    let f = read_at(r, space, 1024, 688296);
+    let g = read_at(f.rest, space, 689320, 2097184);
     let count = wire::read_number32(g.rest);
     let epoch = wire::read_number32(count.rest);
     let state = State {
@@ -99,14 +98,14 @@ fn lent(room: u32) -> usize
 
 // Tables and name as parts of the space.
 fn write_from(call: u8, space: &[u8], t: Tables, name: usize, epoch: u32, out: &mut [u8])
-    requires { ⌜ Spacious (now space) × (t .records ≤ 688296) × (t .heads ≤ 2097184) × (name ≤ 256) ⌝ }
+    requires { ⌜ Spacious (now space) × (t .records ≤ 688296) × (t .heads ≤ 2097184) × (name ≤ 1024) ⌝ }
 {
-    let k = 256 + t.records;
-    let m = 688552 + t.heads;
+    let k = 1024 + t.records;
+    let m = 689320 + t.heads;
     answer_write(
         call,
-        &space[256..k],
-        &space[688552..m],
+        &space[1024..k],
+        &space[689320..m],
         t.state,
         &space[0..name],
         epoch,
@@ -114,12 +113,12 @@ fn write_from(call: u8, space: &[u8], t: Tables, name: usize, epoch: u32, out: &
     );
 }
 
-// A name of up to 256 bytes stands at the space's start.
+// A name of up to 1,024 bytes stands at the space's start.
 pub(crate) fn call_write(call: u8, r: Request, space: &mut [u8], spare: &mut [u8]) -> Request
     requires { ⌜ Spacious (now space) × Roomy (now spare) ⌝ }
 {
     let t = read_tables(r, space);
-    let name = read_at(t.rest, space, 0, 256);
+    let name = read_at(t.rest, space, 0, 1024);
     let epoch = wire::read_number32(name.rest);
     let room = wire::read_number32(epoch.rest);
     let size = lent(room.value);
@@ -141,9 +140,9 @@ pub(crate) fn call_write(call: u8, r: Request, space: &mut [u8], spare: &mut [u8
 fn audit_from(space: &[u8], t: Tables, epoch: u32, out: &mut [u8])
     requires { ⌜ Spacious (now space) × (t .records ≤ 688296) × (t .heads ≤ 2097184) ⌝ }
 {
-    let k = 256 + t.records;
-    let m = 688552 + t.heads;
-    answer_audit(&space[256..k], &space[688552..m], t.state, epoch, out);
+    let k = 1024 + t.records;
+    let m = 689320 + t.heads;
+    answer_audit(&space[1024..k], &space[689320..m], t.state, epoch, out);
 }
 
 pub(crate) fn call_write_audit(r: Request, space: &mut [u8], spare: &mut [u8]) -> Request
