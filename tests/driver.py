@@ -26,9 +26,6 @@ CALLS = {
     "write_audit": (14, [BYTES, BYTES, 4, 4, 4, 4]),
 }
 
-# calls that the driver program does not have yet: its sample, its vectors and its longest requests leave them out
-NOT_YET = {"write_lookup", "write_history", "write_audit"}
-
 
 def be(n, x):
     return x.to_bytes(n, "big")
@@ -63,3 +60,23 @@ def answers(requests):
     if done.returncode != 0:
         raise RuntimeError(f"the driver ended with status {done.returncode}: {done.stderr.decode(errors='replace')}")
     return done.stdout.decode().split("\n")[:-1]
+
+
+class Session:
+    """A run of the driver that is asked request by request."""
+
+    def __enter__(self):
+        self.run = subprocess.Popen(command(), stdin=subprocess.PIPE, stdout=subprocess.PIPE)
+        return self
+
+    def ask(self, call, *values):
+        """The line that the driver writes in answer."""
+        self.run.stdin.write(call_request(call, values))
+        self.run.stdin.flush()
+        return self.run.stdout.readline().decode().rstrip("\n")
+
+    def __exit__(self, *_):
+        self.run.stdin.close()
+        self.run.stdout.close()
+        if self.run.wait() != 0:
+            raise RuntimeError(f"the driver ended with status {self.run.returncode}")

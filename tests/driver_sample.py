@@ -11,7 +11,7 @@ import sys
 sys.dont_write_bytecode = True
 import cases
 import server_cases
-from driver import CALLS, NOT_YET, be, call_request, request
+from driver import CALLS, be, call_request, request
 
 
 def first_difference(a, b):
@@ -104,9 +104,16 @@ UNREADABLE = [
     ("publish", [b"", zero + zero, be(2, 0), be(4, 0), b""]),
     ("publish", [b"", zero + zero, be(4, 0), be(8, 0), b""]),
     ("publish", [b"", zero + zero, be(4, 0), be(4, 0), b"", b""]),
+    ("write_lookup", [b"", zero, be(4, 0), be(4, 0), b"ada", be(4, 0)]),
+    ("write_lookup", [b"", zero, be(4, 0), be(4, 0), b"ada", be(4, 0), be(2, 9)]),
+    ("write_lookup", [b"", zero, be(4, 0), be(4, 0), be(4, 0), be(4, 1000)]),
+    ("write_history", [b"", zero, be(4, 0), be(4, 0), b"ada", be(8, 0), be(4, 9)]),
+    ("write_history", [b"", zero, be(4, 0), be(4, 0), b"ada", be(4, 0), be(4, 9), b""]),
+    ("write_audit", [b"", zero, be(4, 0), be(4, 0), be(4, 0)]),
+    ("write_audit", [b"", zero, be(4, 0), be(4, 0), b"ada", be(4, 0), be(4, 9)]),
 ]
-CASES += [bad(request(CALLS[call][0], fields)) for call, fields in UNREADABLE if call not in NOT_YET]
-CASES += [(call_request(call, values), line) for call, values, line in server_cases.cases(NOT_YET)]
+CASES += [bad(request(CALLS[call][0], fields)) for call, fields in UNREADABLE]
+CASES += [(call_request(call, values), line) for call, values, line in server_cases.cases()]
 # the input ends within a request
 CASES.append(bad(request(1, [b"abc"])[:-1]))
 

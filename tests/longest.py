@@ -1,7 +1,7 @@
 #!/usr/bin/env python3
 """Puts the longest requests through the driver, and compares the answers with the other implementation's: a history of 1,023 versions and a
-lookup of the last, what is too long for the driver's sample, entries and tables at their bounds and past them, and fields that are one byte
-too long for the driver."""
+lookup of the last, written and checked, what is too long for the driver's sample, entries and tables at their bounds and past them, and fields
+that are one byte too long for the driver."""
 import collections
 import sys
 
@@ -21,9 +21,13 @@ TOO_LONG = [
     ("publish", [bytes(688297), b"", 0, 0, b""]),
     ("publish", [b"", bytes(2097185), 0, 0, b""]),
     ("publish", [b"", b"", 0, 0, bytes(41635)]),
+    ("write_lookup", [bytes(688297), b"", 0, 0, b"", 0, 0]),
+    ("write_lookup", [b"", bytes(2097185), 0, 0, b"", 0, 0]),
+    ("write_history", [b"", b"", 0, 0, bytes(1025), 0, 0]),
+    ("write_audit", [bytes(688297), b"", 0, 0, 0, 0]),
 ]
-CASES = [*cases.longest(), *server_cases.longest(driver.NOT_YET)]
-CASES += [(call, values, "bad") for call, values in TOO_LONG if call not in driver.NOT_YET]
+CASES = [*cases.longest(), *server_cases.longest()]
+CASES += [(call, values, "bad") for call, values in TOO_LONG]
 got = driver.answers([driver.call_request(call, values) for call, values, _ in CASES])
 for (call, _, expected), line in zip(CASES, got):
     if line != expected:

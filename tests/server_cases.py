@@ -24,35 +24,37 @@ HEADINGS = {
     "tree_path": ["leaves label absent = path", "leaves as in tree_root; absent 1: the label is to be shown absent"],
     "start": ["heads = count epoch heads_after"],
     "publish": ["records heads count epoch batch = count epoch records_after heads_after"],
+    "write_lookup": ["records heads count epoch name at room = proof", "at: the epoch of the proof; room: how many bytes are lent for it"],
+    "write_history": ["records heads count epoch name at room = proof", "at, room: as in write_lookup"],
+    "write_audit": ["records heads count epoch at room = proof", "at: the new epoch; room: as in write_lookup"],
 }
 
 
-SAMPLED = 800  # a case with more bytes than these is none of the driver's sample, which would have 3 MB with all; tests/longest.py puts it
+SAMPLED = 600  # a case with more bytes than these is none of the driver's sample, which would have 4 MB with all; tests/longest.py puts it
 
 
-def answered(left_out, *groups):
+def answered(*groups):
     for group in groups:
         for call, values in group():
-            if call not in left_out:
-                yield call, values, line(CALLS[call], *values)
+            yield call, values, line(CALLS[call], *values)
 
 
-def split(left_out):
-    """(call, values, answer) of every case but those of the calls left out: those of the sample, and the longer ones."""
+def split():
+    """(call, values, answer) of every case: those of the sample, and the longer ones."""
     parts = [], []
-    for case in answered(left_out, level_cases.given, publish_cases.given, write_cases.given):
+    for case in answered(level_cases.given, publish_cases.given, write_cases.given):
         parts[SAMPLED < sum(len(x) for x in case[1] if isinstance(x, bytes))].append(case)
     return parts
 
 
-def cases(left_out=()):
+def cases():
     """The cases of the driver's sample."""
-    return split(left_out)[0]
+    return split()[0]
 
 
-def longest(left_out=()):
+def longest():
     """The longer cases, and the largest."""
-    return itertools.chain(split(left_out)[1], answered(left_out, level_cases.at_bounds, publish_cases.at_bounds, write_cases.at_bounds))
+    return itertools.chain(split()[1], answered(level_cases.at_bounds, publish_cases.at_bounds, write_cases.at_bounds))
 
 
 def main():
@@ -61,8 +63,9 @@ def main():
     first, *more = HEADINGS[sys.argv[1]]
     for text in [first + "  (or: refused N)", *more]:
         print("#", text)
-    for _, values, said in answered(HEADINGS.keys() - sys.argv[1:], level_cases.examples, publish_cases.examples):
-        print(*map(word, values), "=", said)
+    for call, values, said in answered(level_cases.examples, publish_cases.examples, write_cases.examples):
+        if call == sys.argv[1]:
+            print(*map(word, values), "=", said)
 
 
 if __name__ == "__main__":

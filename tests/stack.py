@@ -21,6 +21,8 @@ DEPTHS = {
     "tree::below": 256,
     "tree_path::walk::way_below": 256,
     "tree_path::write::write_below": 256,
+    "subtrees::count::count_below": 256,
+    "subtrees::write::write_below": 256,
 }
 PAGE = 4096
 

@@ -1,10 +1,12 @@
 """Requests for the three writers: each name and epoch of directories that were published, outputs of the right length and around it, and the
 tables and states of tests/publish_cases.py that are out of bounds or out of shape."""
+import itertools
+
 import publish_cases
 import server
 import writers
 from answer import Refused
-from publish_cases import batch, run, update
+from publish_cases import batch, record, run, update
 
 ROOM = 100000  # more than any proof here has
 LAST = 2**32 - 1
@@ -30,7 +32,7 @@ def directories():
     yield left(run(14, 10, [batch(*x) for x in steps])), names
     yield left(run(9, 11, [batch(b"ada") for _ in range(9)])), [b"ada", b"bo"]
     long = b"n" * 64
-    yield left(run(3, 4, [update(long, b"k" * 64, b"\xff" * 32), update(long, b"k")])), [long, long[1:]]
+    yield left(run(2, 4, [update(long, b"k" * 64, b"\xff" * 32), update(long, b"k")])), [long, long[1:]]
 
 
 def proofs(tables, names):
@@ -52,7 +54,7 @@ def rooms(tables, name):
 
 
 def bad_names(tables):
-    for name in (b"", b"a b", b"\x7f", b"n" * 65):
+    for name in (b"", b"a b", b"\x7f", b"n" * 65, b"n" * 1024):
         yield "write_lookup", [*tables, name, 1, ROOM]
         yield "write_history", [*tables, name, 1, ROOM]
 
@@ -66,20 +68,44 @@ def other_tables():
         yield call, [records, heads, count, epoch, *([b"ada"] if call != "write_audit" else []), min(epoch, 1), ROOM]
 
 
+def examples():
+    """A small directory: each answer that is no proof, and some that are."""
+    records, heads, count, epoch = left(run(3, 4, [batch(b"ada"), batch(b"bo"), batch(b"ada")]))
+    tables = [records, heads, count, epoch]
+    broken = [tables, [records[:-1], heads, count, epoch], [records, heads, count + 1, epoch], [records, heads, count, epoch + 1]]
+    for call in ("write_lookup", "write_history"):
+        for name, at in itertools.product((b"ada", b"bo", b"zed", b"a b"), (0, 1, 3, 4)):
+            yield call, [*tables, name, at, ROOM]
+        for given in broken:
+            yield call, [*given, b"ada", 3, 108]
+    for at in range(5):
+        yield "write_audit", [*tables, at, ROOM]
+    for given in broken:
+        yield "write_audit", [*given, 3, 214]
+
+
 def given():
     for tables, names in directories():
         yield from proofs(tables, names)
         yield from rooms(tables, names[0])
         yield from bad_names(tables)
     yield from other_tables()
+    yield from examples()
 
 
 def at_bounds():
-    """A history of 1,023 versions, and a table of 4,096 records."""
-    yield "write_history", [publish_cases.VERSIONS, publish_cases.HEADS, 1023, 1023, b"ada", 1023, 10**6]
-    yield "write_lookup", [publish_cases.VERSIONS, publish_cases.HEADS, 1023, 1023, b"ada", 1023, 10**6]
-    yield "write_audit", [publish_cases.VERSIONS, publish_cases.HEADS, 1023, 1023, 1023, 10**6]
-    records = publish_cases.table([(b"n%d" % i, 1, 1) for i in range(4096)], 4096)
-    yield "write_lookup", [records, bytes(64), 4096, 1, b"n7", 1, ROOM]
-    yield "write_history", [records, bytes(64), 4096, 1, b"n7", 1, ROOM]
-    yield "write_audit", [records, bytes(64), 4096, 1, 1, 10**6]
+    """A name of 1,023 versions, alone and with others of as many, tables of 4,096 records, and an audit of 256 updates."""
+    alone = [publish_cases.VERSIONS, publish_cases.HEADS, 1023, 1023]
+    yield "write_history", [*alone, b"ada", 1023, LAST]
+    yield "write_lookup", [*alone, b"ada", 1023, LAST]
+    yield "write_audit", [*alone, 1023, LAST]
+    names = [b"ada", b"bo", b"eve", b"fay"]
+    records = b"".join(record(name, v, v, b"k" * 64) for v in range(1, 1024) for name in names)
+    yield "write_history", [records, publish_cases.HEADS, 4092, 1023, b"ada", 1023, LAST]
+    new = [(b"n%d" % i, 1, 1) for i in range(4096)]
+    replaced = new[:3840] + [(name, 2, 2) for name, _, _ in new[:256]]
+    for rows, at in (new, 1), (replaced, 2):
+        tables = [publish_cases.table(rows, 4096), bytes(96), 4096, at]
+        yield "write_lookup", [*tables, b"n7", at, LAST]
+        yield "write_history", [*tables, b"n7", at, LAST]
+        yield "write_audit", [*tables, at, LAST]

@@ -4,6 +4,7 @@
 mod print;
 mod server;
 mod space;
+mod writing;
 
 use paper::AuditAnswer;
 use paper::HistoryAnswer;
@@ -17,10 +18,13 @@ use server::call_start;
 use server::call_tree_path;
 use server::call_tree_root;
 use space::blank;
+use space::blank_spare;
 use space::read_at;
 use wire::Next;
 use wire::Request;
-ghost use Rattle.driver.specs.Space.{Spacious};
+use writing::call_write;
+use writing::call_write_audit;
+ghost use Rattle.driver.specs.Space.{Spacious, Roomy};
 
 // 1: the digest of data of up to 65,536 bytes.
 fn call_sha256(r: Request, space: &mut [u8]) -> Request
@@ -172,8 +176,8 @@ fn call_program(r: Request, space: &mut [u8]) -> Request
 }
 
 // The rest of the request once the call has read its fields: nothing, where it answered.
-fn called(call: u8, r: Request, space: &mut [u8]) -> Request
-    requires { ⌜ Spacious (now space) ⌝ }
+fn called(call: u8, r: Request, space: &mut [u8], spare: &mut [u8]) -> Request
+    requires { ⌜ Spacious (now space) × Roomy (now spare) ⌝ }
 {
     match call {
         1 => call_sha256(r, space),
@@ -184,19 +188,31 @@ fn called(call: u8, r: Request, space: &mut [u8]) -> Request
         8 => call_tree_root(r, space),
         9 => call_tree_path(r, space),
         10 => call_start(r, space),
-        11 => call_publish(r, space),
+        11 => call_publish(r, space, spare),
+        14 => call_write_audit(r, space, spare),
         _ => wire::spoilt(r),
     }
 }
 
+// Lookup and history proofs are written beside the other calls. The compiler joins the frames of those in one, an audit writer's arrays with them,
+// and these would come on top.
+fn answered(call: u8, r: Request, space: &mut [u8], spare: &mut [u8]) -> Request
+    requires { ⌜ Spacious (now space) × Roomy (now spare) ⌝ }
+{
+    match call {
+        12 | 13 => call_write(call, r, space, spare),
+        _ => called(call, r, space, spare),
+    }
+}
+
 // Answers a request, and says whether there was one.
-fn turn(space: &mut [u8]) -> bool
-    requires { ⌜ Spacious (now space) ⌝ }
+fn turn(space: &mut [u8], spare: &mut [u8]) -> bool
+    requires { ⌜ Spacious (now space) × Roomy (now spare) ⌝ }
 {
     let Next::Call(call, r) = wire::next_request() else {
         return false;
     };
-    let rest = called(call, r, space);
+    let rest = answered(call, r, space, spare);
     if !wire::whole(rest) {
         print_text(b"bad\n");
         wire::skip_rest(rest);
@@ -207,8 +223,9 @@ fn turn(space: &mut [u8]) -> bool
 // A proved loop has to end, and nothing says that the input does: so it counts down, from a number that no run uses up.
 fn main() {
     let mut space = blank();
+    let mut spare = blank_spare();
     let mut turns = u64::MAX;
-    while 0 < turns && turn(&mut space) {
+    while 0 < turns && turn(&mut space, &mut spare) {
         turns -= 1;
     }
 }

@@ -9,7 +9,7 @@ use paper::StartAnswer;
 use paper::State;
 use paper::TreeAnswer;
 use wire::Request;
-ghost use Rattle.driver.specs.Space.{Spacious};
+ghost use Rattle.driver.specs.Space.{Spacious, Roomy};
 
 // 8: the root over entries. Their bound is 8,192, and there is room for one more.
 fn answer_tree_root(entries: &[u8]) {
@@ -102,11 +102,6 @@ pub(crate) fn call_start(r: Request, space: &mut [u8]) -> Request
     rest
 }
 
-// Room for 4,096 records, which is their bound, and one more.
-fn blank_records() -> [u8; 688296] {
-    [0; 688296]
-}
-
 // Room for 256 updates, which is their bound, and one more.
 fn blank_batch() -> [u8; 41634] {
     [0; 41634]
@@ -126,13 +121,13 @@ fn answer_publish(records: &mut [u8], heads: &mut [u8], state: State, batch: &[u
     }
 }
 
-// Both tables are lent to be written, so they can't both lie in the space: the heads do.
-pub(crate) fn call_publish(r: Request, space: &mut [u8]) -> Request
-    requires { ⌜ Spacious (now space) ⌝ }
+// Both tables are lent to be written, so they can't both lie in the space: the heads do, and the records in the spare room. There is room for
+// 4,096 records, which is their bound, and one more.
+pub(crate) fn call_publish(r: Request, space: &mut [u8], spare: &mut [u8]) -> Request
+    requires { ⌜ Spacious (now space) × Roomy (now spare) ⌝ }
 {
-    let mut records = blank_records();
     let mut batch = blank_batch();
-    let f = wire::read_field(r, &mut records);
+    let f = read_at(r, spare, 0, 688296);
     let g = read_at(f.rest, space, 0, 2097184);
     let count = wire::read_number32(g.rest);
     let epoch = wire::read_number32(count.rest);
@@ -146,7 +141,7 @@ pub(crate) fn call_publish(r: Request, space: &mut [u8]) -> Request
             count: count.value,
             epoch: epoch.value,
         };
-        answer_publish(&mut records[..k], &mut space[0..m], state, &batch[..n]);
+        answer_publish(&mut spare[0..k], &mut space[0..m], state, &batch[..n]);
     }
     rest
 }

@@ -1,4 +1,4 @@
-// The space that `main` lends to each call in turn, in which the call's fields lie one behind the other.
+// The rooms that `main` lends to each call in turn: the space, in which the call's fields lie one behind the other, and a spare one.
 use wire::Field;
 use wire::Request;
 ghost use Prim.Native.Nat.{_+_, _≤_};
@@ -8,6 +8,12 @@ ghost use lib.ListN.{length};
 // than 3,244,246 bytes.
 pub(crate) fn blank() -> [u8; 3277312] {
     [0; 3277312]
+}
+
+// A second room, for what is written beside fields that lie in the space: a proof, or the records of a table. Of a table of 4,096 records, with the
+// longest keys, a history of 1,023 versions has some 1,046,000 bytes.
+pub(crate) fn blank_spare() -> [u8; 1200000] {
+    [0; 1200000]
 }
 
 // Reads a field of up to so many bytes into the space, from place `at` on.

@@ -1,23 +1,29 @@
--- `driver::main` is safe and ends: the space keeps its length, and the number of turns that are left falls. Assumes nothing.
+-- `driver::main` is safe and ends: both rooms keep their lengths, and the number of turns that are left falls. Assumes nothing.
 use borrow.Author.Needs.{needs}
-use Rattle.driver.specs.Space.{Spacious}
+use Rattle.driver.specs.Space.{Spacious, Roomy}
 use Rattle.driver.proofs.main.Statement.{statement}
 use Rattle.driver.proofs.main.Tie as tie
 
 abbrev Inv-loop : tie.InvT-loop
-Inv-loop space₀ turns₀ space turns = Spacious space
+Inv-loop space₀ spare₀ turns₀ space spare turns = Spacious space × Roomy spare
 
 abbrev μ-loop : tie.MeasureT-loop
-μ-loop space₀ turns₀ space turns = turns
+μ-loop space₀ spare₀ turns₀ space spare turns = turns
 
 blank-requires : tie.Need-blank-requires Inv-loop μ-loop
 blank-requires c κs = search needs
+
+blank-spare-requires : tie.Need-blank-spare-requires Inv-loop μ-loop
+blank-spare-requires c κs = search needs
 
 loop-holds : tie.Need-loop-holds Inv-loop μ-loop
 loop-holds c = search needs
 
 slice-aggregate-turn : tie.Need-slice-aggregate-turn Inv-loop μ-loop
 slice-aggregate-turn c = search needs
+
+slice-aggregate-turn-2 : tie.Need-slice-aggregate-turn-2 Inv-loop μ-loop
+slice-aggregate-turn-2 c = search needs
 
 turn-requires : tie.Need-turn-requires Inv-loop μ-loop
 turn-requires c κs = search needs
@@ -44,8 +50,10 @@ main-spec =
     Inv-loop
     μ-loop
     blank-requires
+    blank-spare-requires
     loop-holds
     slice-aggregate-turn
+    slice-aggregate-turn-2
     turn-requires
     sub-turns
     loop-less

@@ -1,0 +1,160 @@
+// The calls of the three writers. Tables and name lie in the space; the proof is written to the spare room, of which the request says how
+// much is lent.
+use crate::print::print_bytes;
+use crate::print::print_refused;
+use crate::print::print_text;
+use crate::space::read_at;
+use paper::State;
+use paper::WriteAnswer;
+use wire::Request;
+ghost use Prim.Native.Nat.{_≤_};
+ghost use Rattle.driver.specs.Space.{Spacious, Roomy, Inside};
+
+// A proof that was written.
+fn print_proof(proof: &[u8]) {
+    print_bytes(proof);
+    print_text(b"\n");
+}
+
+// 12: a lookup proof. 13: a history proof.
+fn written(
+    call: u8,
+    records: &[u8],
+    heads: &[u8],
+    state: State,
+    name: &[u8],
+    epoch: u32,
+    out: &mut [u8],
+) -> WriteAnswer
+    ensures { λ r. ⌜ Inside r (now (out .exit)) ⌝ }
+{
+    match call {
+        12 => write_proof::write_lookup(records, heads, state, name, epoch, out),
+        _ => write_proof::write_history(records, heads, state, name, epoch, out),
+    }
+}
+
+fn answer_write(
+    call: u8,
+    records: &[u8],
+    heads: &[u8],
+    state: State,
+    name: &[u8],
+    epoch: u32,
+    out: &mut [u8],
+) {
+    match written(call, records, heads, state, name, epoch, out) {
+        WriteAnswer::Written { length, state: _ } => print_proof(&out[0..length]),
+        WriteAnswer::Refused { number, state: _ } => print_refused(number),
+    }
+}
+
+// 14: an audit proof.
+fn answer_audit(records: &[u8], heads: &[u8], state: State, epoch: u32, out: &mut [u8]) {
+    match write_audit::write_audit(records, heads, state, epoch, out) {
+        WriteAnswer::Written { length, state: _ } => print_proof(&out[0..length]),
+        WriteAnswer::Refused { number, state: _ } => print_refused(number),
+    }
+}
+
+// How many bytes both tables have in the space, and the state. The bounds are 4,096 records and 65,536 heads, and there is room for one more of each.
+pub struct Tables {
+    pub records: usize,
+    pub heads: usize,
+    pub state: State,
+    pub rest: Request,
+}
+
+fn read_tables(r: Request, space: &mut [u8]) -> Tables
+    requires { ⌜ Spacious (now space) ⌝ }
+    ensures { λ t. ⌜ (t .records ≤ 688296) × (t .heads ≤ 2097184) ⌝ }
+{
+    let f = read_at(r, space, 1024, 688296);
+    let g = read_at(f.rest, space, 689320, 2097184);
+    let count = wire::read_number32(g.rest);
+    let epoch = wire::read_number32(count.rest);
+    let state = State {
+        count: count.value,
+        epoch: epoch.value,
+    };
+    let rest = epoch.rest;
+    Tables {
+        records: f.length,
+        heads: g.length,
+        state,
+        rest,
+    }
+}
+
+// How much of the spare room is lent: what the request says, and no more than there is.
+fn lent(room: u32) -> usize
+    ensures { λ n. ⌜ n ≤ 1200000 ⌝ }
+{
+    if 1200000 < room {
+        return 1200000;
+    }
+    room as usize
+}
+
+// Tables and name as parts of the space.
+fn write_from(call: u8, space: &[u8], t: Tables, name: usize, epoch: u32, out: &mut [u8])
+    requires { ⌜ Spacious (now space) × (t .records ≤ 688296) × (t .heads ≤ 2097184) × (name ≤ 1024) ⌝ }
+{
+    let k = 1024 + t.records;
+    let m = 689320 + t.heads;
+    answer_write(
+        call,
+        &space[1024..k],
+        &space[689320..m],
+        t.state,
+        &space[0..name],
+        epoch,
+        out,
+    );
+}
+
+// A name of up to 1,024 bytes stands at the space's start.
+pub(crate) fn call_write(call: u8, r: Request, space: &mut [u8], spare: &mut [u8]) -> Request
+    requires { ⌜ Spacious (now space) × Roomy (now spare) ⌝ }
+{
+    let t = read_tables(r, space);
+    let name = read_at(t.rest, space, 0, 1024);
+    let epoch = wire::read_number32(name.rest);
+    let room = wire::read_number32(epoch.rest);
+    let size = lent(room.value);
+    let rest = room.rest;
+    if wire::whole(rest) {
+        write_from(
+            call,
+            space,
+            t,
+            name.length,
+            epoch.value,
+            &mut spare[0..size],
+        );
+    }
+    rest
+}
+
+// The same without a name.
+fn audit_from(space: &[u8], t: Tables, epoch: u32, out: &mut [u8])
+    requires { ⌜ Spacious (now space) × (t .records ≤ 688296) × (t .heads ≤ 2097184) ⌝ }
+{
+    let k = 1024 + t.records;
+    let m = 689320 + t.heads;
+    answer_audit(&space[1024..k], &space[689320..m], t.state, epoch, out);
+}
+
+pub(crate) fn call_write_audit(r: Request, space: &mut [u8], spare: &mut [u8]) -> Request
+    requires { ⌜ Spacious (now space) × Roomy (now spare) ⌝ }
+{
+    let t = read_tables(r, space);
+    let epoch = wire::read_number32(t.rest);
+    let room = wire::read_number32(epoch.rest);
+    let size = lent(room.value);
+    let rest = room.rest;
+    if wire::whole(rest) {
+        audit_from(space, t, epoch.value, &mut spare[0..size]);
+    }
+    rest
+}
