@@ -106,8 +106,9 @@ fn send(audit: &Audit, aim: &'static str, want: Want, out: &mut Cases) {
 
 pub fn put(rng: &mut Rng, out: &mut Cases) {
     let audit = good(rng);
-    match rng.below(8) {
+    match rng.below(9) {
         0 => send(&audit, "a step told as it is", Want::Accept, out),
+        8 => two_faults(audit, rng, out),
         1 => heads(audit, rng, out),
         2 | 3 => rules(audit, rng, out),
         4 => roots(audit, rng, out),
@@ -259,6 +260,43 @@ fn roots(mut audit: Audit, rng: &mut Rng, out: &mut Cases) {
             send(&audit, "a record changed", if is_rule { RULE } else { Want::Refuse(4) }, out)
         }
     }
+}
+
+/// A record changed in each tree, and some of the roots hashed again.
+fn two_faults(mut audit: Audit, rng: &mut Rng, out: &mut Cases) {
+    let before = audit.clone();
+    for list in &mut audit.lists {
+        if list.entries.is_empty() {
+            continue;
+        }
+        let i = rng.below(list.entries.len());
+        match rng.below(4) {
+            0 => rng.flip(&mut list.entries[i].body[..32]),
+            1 if list.entries[i].kind != 1 => list.entries[i].set_epoch(*rng.pick(&[0, before.old.epoch, before.new.epoch])),
+            2 => {
+                list.entries.remove(i);
+                list.count -= 1;
+            }
+            _ => {}
+        }
+    }
+    audit.root_again();
+    let kept = |again: &mut Digest, before: Digest, rng: &mut Rng| {
+        if rng.once_in(3) {
+            *again = before;
+        }
+    };
+    kept(&mut audit.old.all, before.old.all, rng);
+    kept(&mut audit.old.old, before.old.old, rng);
+    kept(&mut audit.new.all, before.new.all, rng);
+    kept(&mut audit.new.old, before.new.old, rng);
+    audit.new.previous = audit.old.head();
+    if rng.once_in(4) {
+        // a record out of its place, behind roots that do not know it
+        let list = &mut audit.lists[rng.below(2)];
+        list.entries.reverse();
+    }
+    send(&audit, "two faults", Want::Any, out)
 }
 
 /// Bytes changed anywhere, with the heads hashed again.

@@ -43,6 +43,13 @@ impl Want {
 pub struct Cases(pub Vec<Case>);
 
 impl Cases {
+    /// What `more` puts, after something else was broken before: which of the two refuses is for the order of tests to say.
+    pub fn put_broken(&mut self, more: impl FnOnce(&mut Cases)) {
+        let mut put = Cases::default();
+        more(&mut put);
+        self.0.extend(put.0.into_iter().map(|case| Case { aim: "two faults", want: Want::Any, ..case }));
+    }
+
     pub fn put(&mut self, call: usize, fields: Vec<Vec<u8>>, aim: &'static str, want: Want) {
         self.0.push(Case { call, fields, aim, want });
     }

@@ -1,11 +1,13 @@
 //! Cases at the bounds that are too large to make many of: once in a run.
 
+use independent::strings::Digest;
 use independent::table::{RECORD, RECORDS};
 use independent::State;
 
 use crate::call::{CHECK_AUDIT, CHECK_HISTORY, CHECK_LOOKUP, PROGRAM, PUBLISH, SHA256, START, TREE_PATH, TREE_ROOT, WRITE_AUDIT, WRITE_HISTORY, WRITE_LOOKUP};
 use crate::case::{Cases, Want};
 use crate::forge::{Audit, Entry, List};
+use crate::liar::apart_at;
 use crate::rng::Rng;
 use crate::world::update;
 
@@ -15,6 +17,8 @@ pub fn put(rng: &mut Rng, out: &mut Cases) {
     put_heads(rng, out);
     put_lists(rng, out);
     put_level(rng, out);
+    put_deep_tree(rng, out);
+    put_one_epoch(rng, out);
     put_program(rng, out);
     for length in (0..=260).chain([65535, 65536]) {
         out.put(SHA256, vec![rng.bytes(length)], "each length up to some blocks", Want::Accept);
@@ -136,6 +140,38 @@ fn put_level(rng: &mut Rng, out: &mut Cases) {
         out.put(TREE_ROOT, vec![entries.clone()], "8,192 entries, and one more", want);
         out.put(TREE_PATH, vec![entries, label.clone(), vec![0, 1]], "8,192 entries, and one more", want);
     }
+}
+
+/// A label that parts from another one at each bit: a path of 256 steps.
+fn put_deep_tree(rng: &mut Rng, out: &mut Cases) {
+    let label = rng.digest();
+    let mut labels: Vec<Digest> = (0..256).map(|at| apart_at(&label, at, rng)).collect();
+    let absent = labels.clone();
+    labels.push(label);
+    let entries = |labels: &[Digest], rng: &mut Rng| labels.iter().flat_map(|label| [&label[..], &rng.digest(), &[0, 0, 0, 9]].concat()).collect::<Vec<u8>>();
+    let bytes = entries(&labels, rng);
+    out.put(TREE_ROOT, vec![bytes.clone()], "a path of 256 steps", Want::Accept);
+    out.put(TREE_PATH, vec![bytes, label.to_vec(), vec![0, 0]], "a path of 256 steps", Want::Accept);
+    let bytes = entries(&absent, rng);
+    out.put(TREE_PATH, vec![bytes.clone(), label.to_vec(), vec![0, 1]], "a path of 255 steps", Want::Accept);
+    for at in [0, 1, 7, 8, 127, 254, 255] {
+        let near = apart_at(&label, at, rng);
+        out.put(TREE_PATH, vec![bytes.clone(), near.to_vec(), vec![0, 0]], "a label beside a deep tree's", Want::Accept);
+    }
+}
+
+/// 300 records of one epoch: no batch gives them, and they are in shape.
+fn put_one_epoch(rng: &mut Rng, out: &mut Cases) {
+    let mut records = Vec::new();
+    for i in 0..300 {
+        independent::table::record_of(&update(format!("n{i}").as_bytes(), rng), 1, 1, &mut records);
+    }
+    let tables = [records, rng.bytes(3 * 32), number(300), number(1)];
+    let aim = "300 records of one epoch";
+    out.put(PUBLISH, [&tables[..], &[Vec::new()]].concat(), aim, Want::Accept);
+    out.put(WRITE_LOOKUP, [&tables[..], &[b"n7".to_vec(), number(1), number(9000)]].concat(), aim, Want::Accept);
+    out.put(WRITE_HISTORY, [&tables[..], &[b"n7".to_vec(), number(1), number(9000)]].concat(), aim, Want::Accept);
+    out.put(WRITE_AUDIT, [&tables[..], &[number(1), number(200_000)]].concat(), aim, Want::Accept);
 }
 
 fn put_program(rng: &mut Rng, out: &mut Cases) {

@@ -215,6 +215,9 @@ pub fn put(rng: &mut Rng, out: &mut Cases) {
         0..=2 => {
             let mut tale = Tale::new(rng);
             let (aim, want) = tale.lie(rng);
+            if rng.once_in(8) {
+                return out.put_broken(|out| put_damaged(CHECK_HISTORY, &tale.liar.name, &tale.prove(), rng, out));
+            }
             Asking::of(CHECK_HISTORY, &tale.liar.name, &tale.prove()).put(aim, want, rng, out)
         }
         3 => put_forged(rng, out),

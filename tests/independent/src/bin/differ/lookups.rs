@@ -149,6 +149,9 @@ fn good(rng: &mut Rng) -> (Vec<u8>, Shows) {
 fn put_lie(rng: &mut Rng, out: &mut Cases) {
     let mut tale = Tale::new(rng);
     let (aim, want) = tale.lie(rng);
+    if rng.once_in(8) {
+        return out.put_broken(|out| put_damaged(CHECK_LOOKUP, &tale.liar.name, &tale.prove(), rng, out));
+    }
     Asking::of(CHECK_LOOKUP, &tale.liar.name, &tale.prove()).put(aim, want, rng, out)
 }
 

@@ -367,6 +367,10 @@ impl World {
                 if rng.once_in(2) {
                     world.heads.truncate((epoch + 1) * 32);
                 }
+                if rng.once_in(4) {
+                    world.bend(rng);
+                    return out.put(PUBLISH, world.publishing(&again), "a name twice, and a table out of shape", TABLE);
+                }
                 out.put(PUBLISH, world.publishing(&again), "a name twice in a batch", Want::Refuse(9))
             }
             _ => {
@@ -404,9 +408,24 @@ impl World {
         }
     }
 
+    /// Heads that are not those of the records: only the previous one is read, and as it stands.
+    fn put_other_heads(&self, rng: &mut Rng, out: &mut Cases) {
+        let mut other = self.clone();
+        let epoch = self.state.epoch as usize;
+        other.heads = rng.bytes((epoch + 2) * 32);
+        let call = *rng.pick(&[PUBLISH, WRITE_LOOKUP, WRITE_HISTORY, WRITE_AUDIT]);
+        let fields = match call {
+            PUBLISH => other.publishing(&[]),
+            _ => other.writing(call, &self.some_name(rng), rng.between((call == WRITE_AUDIT) as u32, self.state.epoch.max(1)), 100_000),
+        };
+        let want = if epoch == 0 { Want::Any } else { Want::Accept };
+        out.put(call, fields, "heads of no directory", want)
+    }
+
     /// Something wrong or something at a bound, of the server's calls.
     pub fn put_fault(&self, rng: &mut Rng, out: &mut Cases) {
-        match rng.below(8) {
+        match rng.below(9) {
+            8 => self.put_other_heads(rng, out),
             0 => self.put_torn(rng, out),
             1 | 2 => self.put_out_of_shape(rng, out),
             3 => self.put_bad_batch(rng, out),
