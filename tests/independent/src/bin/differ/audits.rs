@@ -158,64 +158,67 @@ fn heads(mut audit: Audit, rng: &mut Rng, out: &mut Cases) {
     }
 }
 
-/// A record that breaks a rule of lists, with roots and heads hashed again where there are roots.
+/// A list that breaks a rule; roots and heads are hashed again where there are roots.
 fn rules(mut audit: Audit, rng: &mut Rng, out: &mut Cases) {
     let which = rng.below(2);
-    let (old_epoch, new_epoch) = (audit.old.epoch, audit.new.epoch);
     let entries = &mut audit.lists[which].entries;
-    let Some(i) = entries.first().map(|_| rng.below(entries.len())) else {
+    if entries.is_empty() {
         return send(&audit, "a step told as it is", Want::Accept, out);
-    };
-    let (other, several) = (rng.digest(), entries.len() > 1);
-    let entry = &mut entries[i];
-    let (aim, rooted) = match rng.below(8) {
-        0 if several => {
-            let at = rng.below(entries.len() - 1);
-            entries.swap(at, at + 1);
-            ("records out of order", false)
+    }
+    if rng.once_in(2) {
+        let aim = break_order(entries, rng);
+        audit.lists[which].count = audit.lists[which].entries.len() as u32;
+        return send(&audit, aim, RULE, out);
+    }
+    let i = rng.below(entries.len());
+    let (aim, want) = break_entry(&mut entries[i], which == 1, audit.old.epoch, audit.new.epoch, rng);
+    audit.root_again();
+    send(&audit, aim, want, out)
+}
+
+fn break_order(entries: &mut Vec<Entry>, rng: &mut Rng) -> &'static str {
+    let i = rng.below(entries.len());
+    match rng.below(3) {
+        0 if i > 0 => {
+            entries.swap(i - 1, i);
+            "records out of order"
         }
         1 => {
-            let mut twin = entry.clone();
-            if twin.kind != 1 {
-                twin.body[..32].copy_from_slice(if which == 0 { &other } else { &ZERO });
-            }
-            entries.insert(i, twin);
-            ("a record twice", false)
-        }
-        2 => {
+            let entry = &entries[i];
             let length = 1 + rng.below(entry.length.min(255) as usize);
-            let above = Entry::node(length, prefix(&entry.bits, length), &other, &ZERO);
+            let above = Entry::node(length, prefix(&entry.bits, length), &rng.digest(), &ZERO);
             entries.insert(i, above);
-            ("a record below an opened node", false)
-        }
-        3 if entry.kind == 2 => {
-            entry.set_epoch(*rng.pick(&[old_epoch, 0, new_epoch.wrapping_add(1)]));
-            ("a new leaf of another epoch", true)
-        }
-        4 if entry.kind == 0 => {
-            entry.set_epoch(*rng.pick(&[0, new_epoch, u32::MAX]));
-            ("an unchanged leaf of no earlier epoch", true)
-        }
-        5 if entry.kind != 1 => {
-            entry.kind = 2 - entry.kind;
-            ("an unchanged leaf as a new one, or the reverse", true)
-        }
-        6 if which == 1 && entry.kind != 1 => {
-            entry.body[rng.below(32)] ^= 1 << rng.below(8);
-            ("a leaf of old with a commitment", true)
+            "a record below an opened node"
         }
         _ => {
-            entry.body[rng.below(32)] ^= 1;
-            let want = if which == 1 && entry.kind != 1 { RULE } else { Want::Accept };
-            audit.root_again();
-            return send(&audit, "other bytes, hashed again", want, out);
+            entries.insert(i, entries[i].clone());
+            "a record twice"
         }
-    };
-    audit.lists[which].count = audit.lists[which].entries.len() as u32;
-    if rooted {
-        audit.root_again();
     }
-    send(&audit, aim, RULE, out)
+}
+
+fn break_entry(entry: &mut Entry, of_old: bool, old_epoch: u32, new_epoch: u32, rng: &mut Rng) -> (&'static str, Want) {
+    match rng.below(4) {
+        0 if entry.kind == 2 => {
+            entry.set_epoch(*rng.pick(&[old_epoch, 0, new_epoch.wrapping_add(1)]));
+            ("a new leaf of another epoch", RULE)
+        }
+        0 if entry.kind == 0 => {
+            entry.set_epoch(*rng.pick(&[0, new_epoch, u32::MAX]));
+            ("an unchanged leaf of no earlier epoch", RULE)
+        }
+        1 if entry.kind != 1 => {
+            entry.kind = 2 - entry.kind;
+            ("an unchanged leaf as a new one, or the reverse", RULE)
+        }
+        _ => {
+            rng.flip(&mut entry.body[..32]);
+            match of_old && entry.kind != 1 {
+                true => ("a leaf of old with a commitment", RULE),
+                false => ("other digests, hashed again", Want::Accept),
+            }
+        }
+    }
 }
 
 /// Lists in order that give other roots than the heads have.
@@ -316,66 +319,66 @@ fn bytes(audit: Audit, rng: &mut Rng, out: &mut Cases) {
 }
 
 fn layout(mut audit: Audit, rng: &mut Rng, out: &mut Cases) {
-    let which = rng.below(2);
-    let list = &mut audit.lists[which];
-    let chosen = list.entries.first().map(|_| rng.below(list.entries.len()));
-    let aim = match (rng.below(12), chosen) {
-        (0, _) => {
-            let i = rng.below(5);
+    let listed = audit.lists[0].count > 0;
+    let list = &mut audit.lists[rng.below(2)];
+    let aim = match rng.below(9) {
+        0 => {
+            let i = rng.below(6);
             audit.front[i] = rng.other(audit.front[i]);
-            "another format"
+            "another format or kind"
         }
-        (1, _) => {
-            audit.front[5] = rng.other(3);
-            "another kind of proof"
-        }
-        (2, _) => {
+        1 => {
             list.count += 1;
             "a count over what is there"
         }
-        (3, _) => {
+        2 => {
             list.count = *rng.pick(&[16385, 65536, u32::MAX]);
             "a count over 16,384"
         }
-        (4, Some(_)) => {
-            audit.lists[1].entries.truncate(0);
-            audit.lists[1].count = 0;
-            audit.lists[0].count -= (!audit.lists[0].entries.is_empty()) as u32;
-            audit.rest = vec![0];
+        3 if listed => {
+            audit.lists[0].count -= 1;
             "a count under what is there"
         }
-        (5, Some(i)) => {
-            list.entries[i].kind = rng.between(3, 255) as u8;
+        4 => {
+            let mut proof = audit.bytes();
+            let (any, one) = (rng.below(proof.len()), proof.len() - 1);
+            proof.truncate(*rng.pick(&[any, one]));
+            return out.put(CHECK_AUDIT, vec![audit.old.head().to_vec(), audit.new.head().to_vec(), proof], "cut short", FORM);
+        }
+        _ if list.entries.is_empty() || rng.once_in(5) => {
+            let more = 1 + rng.below(100);
+            audit.rest = rng.bytes(more);
+            "something behind the last field"
+        }
+        _ => {
+            let i = rng.below(list.entries.len());
+            bend_entry(&mut list.entries[i], rng)
+        }
+    };
+    send(&audit, aim, FORM, out)
+}
+
+/// Breaks the layout of a record.
+fn bend_entry(entry: &mut Entry, rng: &mut Rng) -> &'static str {
+    match rng.below(4) {
+        0 => {
+            entry.kind = rng.between(3, 255) as u8;
             "a record of no kind"
         }
-        (6, Some(i)) => {
-            let entry = &mut list.entries[i];
+        1 => {
             entry.length = *rng.pick(if entry.kind == 1 { &[0, 256, 257, 0xffff] } else { &[0, 1, 255, 257] });
             "a length that its kind has not"
         }
-        (7, Some(i)) => {
-            let entry = &mut list.entries[i];
+        2 if entry.kind != 1 => {
+            rng.flip(&mut entry.body[36..]);
+            "filling that is not zero"
+        }
+        _ => {
             let length = 1 + rng.below(255);
             let past = length + rng.below(256 - length);
             *entry = Entry::node(length, ZERO, &ZERO, &ZERO);
             entry.bits[past / 8] |= 0x80 >> (past % 8);
             "bits past a prefix"
         }
-        (8, Some(i)) if list.entries[i].kind != 1 => {
-            rng.flip(&mut list.entries[i].body[36..]);
-            "filling that is not zero"
-        }
-        (9, _) => {
-            let mut proof = audit.bytes();
-            let (any, one) = (rng.below(proof.len()), proof.len() - 1);
-            proof.truncate(*rng.pick(&[any, one]));
-            return out.put(CHECK_AUDIT, vec![audit.old.head().to_vec(), audit.new.head().to_vec(), proof], "cut short", FORM);
-        }
-        _ => {
-            let more = 1 + rng.below(100);
-            audit.rest = rng.bytes(more);
-            "something behind the last field"
-        }
-    };
-    send(&audit, aim, FORM, out)
+    }
 }

@@ -1,7 +1,7 @@
 //! What can be done to any lookup or history proof that was good before.
 
 use crate::case::{Cases, Want};
-use crate::forge::{another_node, Shows};
+use crate::forge::{another_node, Path, Shows};
 use crate::rng::Rng;
 
 /// A head, a name and a proof, for `call`.
@@ -173,64 +173,72 @@ fn layout(call: usize, name: &[u8], mut shows: Shows, rng: &mut Rng, out: &mut C
 
 /// Breaks one thing, if the proof has it.
 fn break_layout(shows: &mut Shows, rng: &mut Rng) -> Option<&'static str> {
-    match rng.below(7) {
-        0 => return Some(break_front(shows, rng)),
-        1 => {
-            let key = shows.keys.first().map(|_| rng.below(shows.keys.len()))?;
-            let key = &mut shows.keys[key];
+    let (keys, paths) = (shows.keys.len(), shows.paths.len());
+    match rng.below(8) {
+        0 => Some(break_front(shows, rng)),
+        1 if keys > 0 => {
+            let key = &mut shows.keys[rng.below(keys)];
             key.length = *rng.pick(&[0, 65, 255]);
             key.key.resize(key.length as usize, 7);
-            return Some("a key length out of range");
+            Some("a key length out of range")
         }
-        2 if !shows.paths.is_empty() => {
-            if rng.once_in(2) {
-                shows.paths.pop();
-                return Some("a path too few");
-            }
-            shows.paths.push(shows.paths[rng.below(shows.paths.len())].clone());
-            return Some("a path too many");
+        2 if paths > 0 => {
+            shows.paths.pop();
+            Some("a path too few")
         }
-        _ => {}
+        3 if paths > 0 => {
+            shows.paths.push(shows.paths[rng.below(paths)].clone());
+            Some("a path too many")
+        }
+        4 | 5 if paths > 0 => Some(break_steps(&mut shows.paths[rng.below(paths)], rng)),
+        6 | 7 if paths > 0 => Some(break_end(&mut shows.paths[rng.below(paths)], rng)),
+        _ => None,
     }
-    let i = shows.paths.first().map(|_| rng.below(shows.paths.len()))?;
-    let path = &mut shows.paths[i];
+}
+
+fn break_steps(path: &mut Path, rng: &mut Rng) -> &'static str {
     let steps = path.steps.len();
-    match rng.below(9) {
+    match rng.below(5) {
         0 => {
             path.steps.clear();
             path.count = 0;
-            Some("a path of no steps")
+            "a path of no steps"
         }
         1 => {
             path.steps = (0..257).map(|k| (k.min(255), [0; 32])).collect();
             path.count = 257;
-            Some("a path of 257 steps")
+            "a path of 257 steps"
         }
-        2 => {
-            path.steps[0].0 = *rng.pick(&[1, 2, 255, 256, 0xffff]);
-            Some("lengths that do not begin at 0")
-        }
-        3 if steps > 1 => {
+        2 if steps > 1 => {
             let at = 1 + rng.below(steps - 1);
             path.steps[at].0 = rng.between(0, path.steps[at - 1].0 as u32) as u16;
-            Some("lengths that do not rise")
+            "lengths that do not rise"
         }
-        4 if steps > 1 => {
-            path.steps[steps - 1].0 = *rng.pick(&[256, 257, 0x0100 + 7, 0xffff]);
-            Some("a length over 255")
+        3 if steps > 1 => {
+            path.steps[steps - 1].0 = *rng.pick(&[256, 257, 0x0107, 0xffff]);
+            "a length over 255"
         }
-        5 => {
+        _ => {
+            path.steps[0].0 = *rng.pick(&[1, 2, 255, 256, 0xffff]);
+            "lengths that do not begin at 0"
+        }
+    }
+}
+
+fn break_end(path: &mut Path, rng: &mut Rng) -> &'static str {
+    match rng.below(4) {
+        0 => {
             path.kind = rng.between(4, 255) as u8;
-            Some("an end of no kind")
+            "an end of no kind"
         }
-        6 if steps > 1 => {
+        1 if path.steps.len() > 1 => {
             (path.kind, path.end) = (3, Vec::new());
-            Some("nothing below the root")
+            "nothing below the root"
         }
-        7 => {
+        2 => {
             let length = *rng.pick(&[0, 256, 257, 0xffff]);
             (path.kind, path.end) = another_node(length, &[0; 32], &rng.digest(), &rng.digest());
-            Some("another node of no such length")
+            "another node of no such length"
         }
         _ => {
             let length = 1 + rng.below(255);
@@ -238,7 +246,7 @@ fn break_layout(shows: &mut Shows, rng: &mut Rng) -> Option<&'static str> {
             let mut bits = [0; 32];
             bits[past / 8] |= 0x80 >> (past % 8);
             (path.kind, path.end) = another_node(length as u16, &bits, &rng.digest(), &rng.digest());
-            Some("bits past a prefix")
+            "bits past a prefix"
         }
     }
 }

@@ -57,63 +57,78 @@ impl Tale {
 
     /// Changes what is told, and hashes all of it again.
     fn lie(&mut self, rng: &mut Rng) -> (&'static str, Want) {
-        let (v, j) = (self.version, marker_of(self.version));
         match rng.below(13) {
-            0 => self.liar.take(Which::All, VERSION, v),
+            0 => ("a version told as it is", Want::Accept),
+            1..=6 => (self.lie_of_version(rng), RULE),
+            7 => {
+                let commitment = if rng.once_in(2) { ZERO } else { rng.digest() };
+                self.liar.put(Which::Old, VERSION, self.version, commitment, rng.next() as u32);
+                ("a replaced version", RULE)
+            }
+            _ => (self.lie_of_marker(rng), RULE),
+        }
+    }
+
+    fn lie_of_version(&mut self, rng: &mut Rng) -> &'static str {
+        let version = self.version;
+        match rng.below(6) {
+            0 => {
+                self.liar.take(Which::All, VERSION, version);
+                "no such version"
+            }
             1 => {
-                rng.flip(&mut self.liar.leaf(Which::All, VERSION, v).commitment);
-                return ("a version with another commitment", RULE);
+                rng.flip(&mut self.liar.leaf(Which::All, VERSION, version).commitment);
+                "a version with another commitment"
             }
             2 => {
-                self.since = within(0, v as u32 - 1, rng);
+                self.since = within(0, version as u32 - 1, rng);
                 self.marked = self.marked.min(self.since);
                 self.tell();
-                return ("a version before its time", RULE);
+                "a version before its time"
             }
             3 => {
-                self.liar.epoch = within(v as u32, self.since, rng);
+                self.liar.epoch = within(version as u32, self.since, rng);
                 self.since = within(self.liar.epoch + 1, u32::MAX, rng);
                 self.tell();
-                return ("a version after the head's epoch", RULE);
+                "a version after the head's epoch"
             }
             4 => {
-                let epoch = rng.next() as u32;
-                let commitment = if rng.once_in(2) { ZERO } else { rng.digest() };
-                self.liar.put(Which::Old, VERSION, v, commitment, epoch);
-                return ("a replaced version", RULE);
-            }
-            5 => {
-                self.liar.take(Which::All, MARKER, j);
-                return ("no marker", RULE);
-            }
-            6 => {
-                rng.flip(&mut self.liar.leaf(Which::All, MARKER, j).commitment);
-                return ("a marker with a commitment", RULE);
-            }
-            7 => {
-                self.liar.leaf(Which::All, MARKER, j).epoch = within(0, (1 << j) - 1, rng);
-                return ("a marker before its time", RULE);
-            }
-            8 => {
-                self.liar.leaf(Which::All, MARKER, j).epoch = within(self.since + 1, u32::MAX, rng);
-                return ("a marker after its version", RULE);
-            }
-            9 => {
-                self.liar.put(Which::Old, MARKER, j, ZERO, self.marked);
-                self.liar.take(Which::All, MARKER, j);
-                return ("a marker in the wrong tree", RULE);
-            }
-            10 => {
                 rng.flip(&mut self.key.opening);
-                return ("another opening of the commitment", RULE);
+                "another opening of the commitment"
             }
-            11 => {
+            _ => {
                 rng.flip(&mut self.key.key);
-                return ("another key", RULE);
+                "another key"
             }
-            _ => return ("a version told as it is", Want::Accept),
         }
-        ("no such version", RULE)
+    }
+
+    fn lie_of_marker(&mut self, rng: &mut Rng) -> &'static str {
+        let number = marker_of(self.version);
+        let leaf = self.liar.leaf(Which::All, MARKER, number);
+        match rng.below(5) {
+            0 => {
+                rng.flip(&mut leaf.commitment);
+                "a marker with a commitment"
+            }
+            1 => {
+                leaf.epoch = within(0, (1 << number) - 1, rng);
+                "a marker before its time"
+            }
+            2 => {
+                leaf.epoch = within(self.since + 1, u32::MAX, rng);
+                "a marker after its version"
+            }
+            3 => {
+                self.liar.take(Which::All, MARKER, number);
+                "no marker"
+            }
+            _ => {
+                self.liar.put(Which::Old, MARKER, number, ZERO, self.marked);
+                self.liar.take(Which::All, MARKER, number);
+                "a marker in the wrong tree"
+            }
+        }
     }
 
     fn prove(&self) -> Shows {

@@ -1,6 +1,6 @@
 //! Directories, as start and publishings leave them, and the requests to server and checkers about them.
 
-use independent::table::{RECORD, UPDATE};
+use independent::table::{counted, Record, RECORD, UPDATE};
 use independent::{publish, start, State};
 
 use crate::call::{CHECK_AUDIT, CHECK_HISTORY, CHECK_LOOKUP, PUBLISH, START, WRITE_AUDIT, WRITE_HISTORY, WRITE_LOOKUP};
@@ -30,6 +30,36 @@ pub fn update(name: &[u8], rng: &mut Rng) -> Vec<u8> {
     update[66..66 + length].copy_from_slice(&rng.bytes(length));
     update[130..].copy_from_slice(&rng.digest());
     update
+}
+
+fn spoil_update(update: &mut Vec<u8>, rng: &mut Rng) -> &'static str {
+    let (name, key) = (update[0] as usize, update[65] as usize);
+    match rng.below(6) {
+        0 => {
+            update.truncate(rng.below(UPDATE - 1) + 1);
+            "a torn batch"
+        }
+        1 => {
+            update[0] = *rng.pick(&[0, 65, 255]);
+            "an update's name length"
+        }
+        2 if name < 64 => {
+            update[1 + name + rng.below(64 - name)] = 1 + rng.below(255) as u8;
+            "an update's name filling"
+        }
+        3 => {
+            update[65] = *rng.pick(&[0, 65, 255]);
+            "an update's key length"
+        }
+        4 if key < 64 => {
+            update[66 + key + rng.below(64 - key)] = 1 + rng.below(255) as u8;
+            "an update's key filling"
+        }
+        _ => {
+            update[1 + rng.below(name)] = *rng.pick(&[0, 0x20, 0x7f, 0xff]);
+            "an update's name of other bytes"
+        }
+    }
 }
 
 /// Zeros, or anything.
@@ -193,193 +223,167 @@ impl World {
     }
 
     fn bend(&mut self, rng: &mut Rng) -> &'static str {
-        let slots = (self.records.len() / RECORD) as u32;
-        let count = self.state.count as usize;
-        let choice = if count == 0 { rng.below(2) } else { rng.below(16) };
+        let choice = if self.state.count == 0 { 0 } else { rng.below(8) };
         match choice {
-            0 => {
-                self.state.count = *rng.pick(&[slots + 1, slots + 2, 4097, u32::MAX]).max(&(slots + 1));
-                return "a count past the table";
-            }
-            1 => {
-                let heads = (self.heads.len() / 32) as u32;
-                self.state.epoch = *rng.pick(&[heads, heads + 1, 65536, u32::MAX]).max(&heads);
-                return "an epoch past the table";
-            }
-            _ => {}
+            0 | 1 => self.bend_state(rng),
+            2 | 3 => self.bend_epoch(rng),
+            4 | 5 => self.bend_field(rng),
+            6 => self.bend_version(rng),
+            _ => self.bend_rows(rng),
         }
-        let i = rng.below(count);
-        let (epoch, current) = (independent::table::Record(&self.records[i * RECORD..]).epoch(), self.state.epoch);
-        let first = independent::table::Record(&self.records[..RECORD]).epoch();
+    }
+
+    fn bend_state(&mut self, rng: &mut Rng) -> &'static str {
+        let (slots, heads) = ((self.records.len() / RECORD) as u32, (self.heads.len() / 32) as u32);
+        if self.state.count > 0 && rng.once_in(4) {
+            self.state.epoch = 0;
+            return "records at epoch 0";
+        }
+        if rng.once_in(2) {
+            self.state.count = *rng.pick(&[slots + 1, slots + 2, 4097, u32::MAX]);
+            return "a count past the table";
+        }
+        self.state.epoch = *rng.pick(&[heads, heads + 1, 65536, u32::MAX]);
+        "an epoch past the table"
+    }
+
+    fn bend_epoch(&mut self, rng: &mut Rng) -> &'static str {
+        let (i, current) = (rng.below(self.state.count as usize), self.state.epoch);
+        let (first, before) = (self.record(0).epoch(), self.record(i.saturating_sub(1)).epoch());
+        let (epoch, aim) = match rng.below(3) {
+            0 if before > first => (before - 1, "epochs that fall"),
+            1 => (*rng.pick(&[current + 1, u32::MAX]), "a record after the current epoch"),
+            _ => (0, "a record of epoch 0"),
+        };
+        self.records[i * RECORD + 67..i * RECORD + 71].copy_from_slice(&epoch.to_be_bytes());
+        aim
+    }
+
+    fn bend_field(&mut self, rng: &mut Rng) -> &'static str {
+        let i = rng.below(self.state.count as usize);
+        let (name, key) = (self.record(i).name().len(), self.record(i).key().len());
         let record = &mut self.records[i * RECORD..(i + 1) * RECORD];
-        let (name, key) = (record[0] as usize, record[71] as usize);
-        let mut set_epoch = |epoch: u32| record[67..71].copy_from_slice(&epoch.to_be_bytes());
-        match choice {
-            2 => {
-                set_epoch(0);
-                "a record of epoch 0"
-            }
-            3 => {
-                set_epoch(*rng.pick(&[current + 1, u32::MAX]));
-                "a record after the current epoch"
-            }
-            4 if i > 0 && epoch > first => {
-                let before = independent::table::Record(&self.records[(i - 1) * RECORD..i * RECORD]).epoch();
-                self.records[i * RECORD + 67..i * RECORD + 71].copy_from_slice(&(before - 1).to_be_bytes());
-                "epochs that fall"
-            }
-            5 => {
+        match rng.below(5) {
+            0 => {
                 record[0] = *rng.pick(&[0, 65, 255]);
                 "a name length out of bounds"
             }
-            6 => {
-                record[1 + rng.below(name)] = *rng.pick(&[0, 0x20, 0x7f, 0xff]);
-                "a name of other bytes"
-            }
-            7 if name < 64 => {
+            1 if name < 64 => {
                 record[1 + name + rng.below(64 - name)] = 1 + rng.below(255) as u8;
                 "a name's filling"
             }
-            8 => {
+            2 => {
                 record[71] = *rng.pick(&[0, 65, 255]);
                 "a key length out of bounds"
             }
-            9 if key < 64 => {
+            3 if key < 64 => {
                 record[72 + key + rng.below(64 - key)] = 1 + rng.below(255) as u8;
                 "a key's filling"
             }
-            10 => {
-                record[65..67].copy_from_slice(&rng.pick(&[0u16, 1024, 0xffff]).to_be_bytes());
-                "a version out of bounds"
-            }
-            11 => {
-                let version = u16::from_be_bytes([record[65], record[66]]);
-                record[65..67].copy_from_slice(&(version + 1).to_be_bytes());
-                "a version left out"
-            }
-            12 => {
-                let again = self.records[i * RECORD..(i + 1) * RECORD].to_vec();
-                self.records.truncate(count * RECORD);
-                self.records.extend(again);
-                self.state.count += 1;
-                "a record twice"
-            }
-            13 => {
-                let (name, version) = (self.records[i * RECORD..i * RECORD + 65].to_vec(), self.last_version(i) + 1);
-                let mut again = self.records[(count - 1) * RECORD..count * RECORD].to_vec();
-                again[..65].copy_from_slice(&name);
-                again[65..67].copy_from_slice(&version.to_be_bytes());
-                again[67..71].copy_from_slice(&self.last_epoch(i).to_be_bytes());
-                self.records.truncate(count * RECORD);
-                self.records.extend(again);
-                self.state.count += 1;
-                "two versions of a name in one epoch"
-            }
-            14 => {
-                self.records[(count - 1) * RECORD..count * RECORD].fill(0);
-                "a record of zeros"
-            }
             _ => {
-                self.state.epoch = 0;
-                "records at epoch 0"
+                record[1 + rng.below(name)] = *rng.pick(&[0, 0x20, 0x7f, 0xff]);
+                "a name of other bytes"
             }
         }
     }
 
-    fn of_name(&self, i: usize) -> impl Iterator<Item = independent::table::Record<'_>> {
-        let name = independent::table::Record(&self.records[i * RECORD..]).name();
-        independent::table::counted(&self.records, self.state).filter(move |record| record.name() == name)
+    fn bend_version(&mut self, rng: &mut Rng) -> &'static str {
+        let i = rng.below(self.state.count as usize);
+        let version = self.record(i).version();
+        let (version, aim) = match rng.below(3) {
+            0 => (version + 1, "a version left out"),
+            1 => (version - 1, "a version twice"),
+            _ => (*rng.pick(&[0, 1024, 0xffff]), "a version out of bounds"),
+        };
+        self.records[i * RECORD + 65..i * RECORD + 67].copy_from_slice(&version.to_be_bytes());
+        aim
     }
 
-    fn last_version(&self, i: usize) -> u16 {
-        self.of_name(i).map(|record| record.version()).max().unwrap_or(0)
-    }
-
-    fn last_epoch(&self, i: usize) -> u32 {
-        self.of_name(i).map(|record| record.epoch()).max().unwrap_or(0)
-    }
-
-    /// A batch with a fault.
-    fn put_bad_batch(&self, rng: &mut Rng, out: &mut Cases) {
-        let mut batch = update(&self.some_name(rng), rng);
-        let (name, key) = (batch[0] as usize, batch[65] as usize);
-        let aim = match rng.below(7) {
-            0 => {
-                batch.truncate(rng.below(UPDATE - 1) + 1);
-                "a torn batch"
-            }
+    /// A record more, or one of zeros.
+    fn bend_rows(&mut self, rng: &mut Rng) -> &'static str {
+        let count = self.state.count as usize;
+        let i = rng.below(count);
+        let mut again = self.record(i).0[..RECORD].to_vec();
+        let aim = match rng.below(3) {
+            0 => "a record twice",
             1 => {
-                batch[0] = *rng.pick(&[0, 65, 255]);
-                "an update's name length"
-            }
-            2 => {
-                batch[1 + rng.below(name)] = *rng.pick(&[0, 0x20, 0x7f, 0xff]);
-                "an update's name of other bytes"
-            }
-            3 if name < 64 => {
-                batch[1 + name + rng.below(64 - name)] = 1 + rng.below(255) as u8;
-                "an update's name filling"
-            }
-            4 => {
-                batch[65] = *rng.pick(&[0, 65, 255]);
-                "an update's key length"
-            }
-            5 if key < 64 => {
-                batch[66 + key + rng.below(64 - key)] = 1 + rng.below(255) as u8;
-                "an update's key filling"
+                let last = self.of_name(i).last().expect("its own record");
+                again[65..67].copy_from_slice(&(last.version() + 1).to_be_bytes());
+                again[67..71].copy_from_slice(&last.epoch().to_be_bytes());
+                "two versions of a name in one epoch"
             }
             _ => {
-                batch = (0..257).flat_map(|i| update(format!("n{i}").as_bytes(), rng)).collect();
-                "a batch of 257 updates"
+                self.records[(count - 1) * RECORD..count * RECORD].fill(0);
+                return "a record of zeros";
             }
         };
-        let mut before = if rng.once_in(2) && batch.len() <= UPDATE { self.batch(rng) } else { Vec::new() };
-        before.extend(batch);
+        self.records.truncate(count * RECORD);
+        self.records.extend(again);
+        self.state.count += 1;
+        aim
+    }
+
+    fn record(&self, i: usize) -> Record<'_> {
+        Record(&self.records[i * RECORD..])
+    }
+
+    fn of_name(&self, i: usize) -> impl Iterator<Item = Record<'_>> {
+        let name = self.record(i).name();
+        counted(&self.records, self.state).filter(move |record| record.name() == name)
+    }
+
+    /// A batch with a fault, in tables that may have another.
+    fn put_bad_batch(&self, rng: &mut Rng, out: &mut Cases) {
+        if rng.once_in(12) {
+            let batch: Vec<u8> = (0..257).flat_map(|i| update(format!("n{i}").as_bytes(), rng)).collect();
+            return out.put(PUBLISH, self.publishing(&batch), "a batch of 257 updates", INPUT);
+        }
+        let mut batch = if rng.once_in(2) { self.batch(rng) } else { Vec::new() };
+        let mut last = update(&self.some_name(rng), rng);
+        let aim = spoil_update(&mut last, rng);
+        batch.extend(last);
         let mut world = self.clone();
         if rng.once_in(4) {
             world.bend(rng);
         }
-        out.put(PUBLISH, world.publishing(&before), aim, INPUT)
+        out.put(PUBLISH, world.publishing(&batch), aim, INPUT)
     }
 
+    /// Tables with just the room that a batch of two takes, or less.
     fn put_full_or_twice(&self, rng: &mut Rng, out: &mut Cases) {
         let mut world = self.clone();
-        let batch = [update(&self.names[0], rng), update(b"twin", rng)].concat();
+        let mut batch = [update(&self.names[0], rng), update(b"twin", rng)].concat();
         let (count, epoch) = (world.state.count as usize, world.state.epoch as usize);
-        world.records.resize((count + 3) * RECORD, 9);
+        world.records.resize((count + 2) * RECORD, 9);
         world.heads.resize((epoch + 2) * 32, 9);
-        match rng.below(5) {
+        let (aim, want) = match rng.below(5) {
             0 => {
                 world.records.truncate((count + rng.below(2)) * RECORD);
-                out.put(PUBLISH, world.publishing(&batch), "too few free records", FULL)
+                ("too few free records", FULL)
             }
             1 => {
                 world.heads.truncate((epoch + 1) * 32);
-                let batch = if rng.once_in(2) { Vec::new() } else { batch };
-                out.put(PUBLISH, world.publishing(&batch), "no head slot", FULL)
+                batch.truncate(rng.below(2) * batch.len());
+                ("no head slot", FULL)
             }
             2 => {
                 world.records.truncate(count * RECORD);
-                out.put(PUBLISH, world.publishing(&[]), "an empty batch without free records", Want::Accept)
+                batch.clear();
+                ("an empty batch without free records", Want::Accept)
             }
             3 => {
-                let again = [&batch[..], &update(b"twin", rng)].concat();
-                if rng.once_in(2) {
-                    world.heads.truncate((epoch + 1) * 32);
-                }
+                batch.extend(update(b"twin", rng));
+                world.heads.truncate((epoch + 1 + rng.below(2)) * 32);
                 if rng.once_in(4) {
                     world.bend(rng);
-                    return out.put(PUBLISH, world.publishing(&again), "a name twice, and a table out of shape", TABLE);
+                    ("a name twice, and a table out of shape", TABLE)
+                } else {
+                    ("a name twice in a batch", Want::Refuse(9))
                 }
-                out.put(PUBLISH, world.publishing(&again), "a name twice in a batch", Want::Refuse(9))
             }
-            _ => {
-                let (records, slots) = (count + 2, epoch + 2);
-                world.records.truncate(records * RECORD);
-                world.heads.truncate(slots * 32);
-                out.put(PUBLISH, world.publishing(&batch), "a batch that just fits", Want::Accept)
-            }
-        }
+            _ => ("a batch that just fits", Want::Accept),
+        };
+        out.put(PUBLISH, world.publishing(&batch), aim, want)
     }
 
     fn put_writer_fault(&self, rng: &mut Rng, out: &mut Cases) {
