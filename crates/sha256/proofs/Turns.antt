@@ -39,10 +39,14 @@ schedule-done b w t h l e = sym (take-all t w (omega arith)) ∙ e ∙ ap (sched
 
 -- ---- the rounds
 
-pub rounds-turn : (w : List ℕ) (s r q : State) (t k : ℕ) → r ≡ rounds w s t → k ≡ getD K t 0 → q ≡ round r k (getD w t 0)
-    → q ≡ rounds w s (t + 1)
+pub rounds-turn : (w : List ℕ) (s r q : State) (t u k : ℕ) → u ≡ suc t → r ≡ rounds w s t → k ≡ getD K t 0 → q ≡ round r k (getD w t 0)
+    → q ≡ rounds w s u
 unfolding rounds
-rounds-turn w s r q t k e f g = rw add-one (g ∙ ap₂ (λ (x : State) (y : ℕ). round x y (getD w t 0)) e f)
+rounds-turn w s r q t u k n e f g = rw n (g ∙ ap₂ (λ (x : State) (y : ℕ). round x y (getD w t 0)) e f)
+
+-- twice four are eight
+pub rounds-on : (w : List ℕ) (s r : State) (t : ℕ) → r ≡ rounds w s (t + 4 + 4) → r ≡ rounds w s (t + 8)
+rounds-on w s r t e = let n : t + 4 + 4 ≡ t + 8 = omega arith in e ∙ ap (rounds w s) n
 
 pub rounds-done : (b w : List ℕ) (s r q : State) (t : ℕ) → t ≡ 64 → w ≡ schedule b 64 → r ≡ rounds w s t → q ≡ add s r
     → q ≡ compress s b

@@ -3,15 +3,17 @@
 use crate::words::big0;
 use crate::words::big1;
 use crate::words::ch;
-use crate::words::constant;
+use crate::words::constants;
 use crate::words::maj;
 use crate::words::small0;
 use crate::words::small1;
 use fips::State;
 use std::num::wrapping_add_u32;
 ghost use mathlib.Core.Path.{_≡_};
-ghost use Prim.Native.Nat.{_+_, _*_, _<_};
+ghost use Prim.Native.Nat.{_+_, _*_, _<_, _≤_};
 ghost use lib.ListN.{length};
+ghost use Rattle.fips.specs.declared.State.{State};
+ghost use Rattle.fips.specs.Words as W;
 ghost use Rattle.fips.specs.Sha256 as S;
 
 // A word of four bytes, the first the most significant.
@@ -103,15 +105,29 @@ fn add(s: State, r: State) -> State
     }
 }
 
-// The hash value after a block.
-fn compress(s: State, b: &[u8]) -> State
-    requires { ⌜ length (now b) ≡ 64 ⌝ }
+// Four rounds, from round t on. They are written out so that the working variables need not move.
+fn four(s: State, k: &[u32; 64], w: &[u32; 64], t: usize) -> State
+    requires { ⌜ (t + 4 ≤ 64) × (now k ≡ W.K) ⌝ }
+    ensures { λ r. ⌜ ((x : State) → s ≡ S.rounds (now (w .entry)) x t → r ≡ S.rounds (now (w .entry)) x (t + 4)) ⌝ }
+{
+    let r1 = round(s, k[t], w[t]);
+    let r2 = round(r1, k[t + 1], w[t + 1]);
+    let r3 = round(r2, k[t + 2], w[t + 2]);
+    round(r3, k[t + 3], w[t + 3])
+}
+
+// The hash value after a block. The constants are lent: an array that a function names as a constant is laid out anew at each use.
+fn compress(s: State, k: &[u32; 64], b: &[u8]) -> State
+    requires { ⌜ (now k ≡ W.K) × (length (now b) ≡ 64) ⌝ }
     ensures { λ r. ⌜ r ≡ S.compress s (now (b .entry)) ⌝ }
 {
     let w = schedule(b);
     let mut r = s;
-    for t in 0..64 {
-        r = round(r, constant(t), w[t]);
+    let mut t = 0;
+    while t < 64 {
+        let half = four(r, k, &w, t);
+        r = four(half, k, &w, t + 4);
+        t += 8;
     }
     add(s, r)
 }
@@ -120,11 +136,12 @@ fn compress(s: State, b: &[u8]) -> State
 pub(crate) fn blocks(s: State, m: &[u8]) -> State
     ensures { λ r. ⌜ r ≡ S.hash s (now (m .entry)) ⌝ }
 {
+    let k = constants();
     let mut r = s;
     let mut at = 0;
     while 64 <= m.len() - at {
         let next = at + 64;
-        r = compress(r, &m[at..next]);
+        r = compress(r, &k, &m[at..next]);
         at = next;
     }
     r
