@@ -4,7 +4,7 @@ use Prim.Native.Nat.{_≤_, _-_, _%_}
 use native.Mathlib.Omega.{arith}
 use borrow.Author.Needs.{needs}
 use Rattle.fips.specs.Sha256 as S
-use Rattle.sha256.proofs.Turns.{rounds-on, rounds-done}
+use Rattle.sha256.proofs.Turns.{rounds-done}
 use Rattle.sha256.proofs.block.compress.Statement.{statement}
 use Rattle.sha256.proofs.block.compress.Tie as tie
 
@@ -18,19 +18,13 @@ loop-holds : tie.Need-loop-holds Inv-loop μ-loop
 unfolding S.rounds
 loop-holds c = (omega arith, omega arith, refl)
 
-four-requires : tie.Need-four-requires Inv-loop μ-loop
-four-requires c κs = (omega (arith, c .before .loop-test, c .before .before .loop .inv .1), c .before .before .before .before .before .pre .0)
-
-four-requires-2 : tie.Need-four-requires-2 Inv-loop μ-loop
-four-requires-2 c κs =
-    let k = c .before .before in
-    (omega (arith, k .before .loop-test, k .before .before .loop .inv .1), k .before .before .before .before .before .pre .0)
+eight-requires : tie.Need-eight-requires Inv-loop μ-loop
+eight-requires c κs = (omega (arith, c .before .loop-test, c .before .before .loop .inv .1), c .before .before .before .before .before .pre .0)
 
 loop-again : tie.Need-loop-again Inv-loop μ-loop
 loop-again c =
-    let k = c .before .before in
-    let l = k .before .before .before .loop in
-    (omega arith, omega (arith, l .inv .1), rounds-on _ _ _ (l .t) (c .four2 .ensures _ (k .four .ensures _ (l .inv .2))))
+    let l = c .before .before .before .loop in
+    (omega arith, omega (arith, l .inv .1), c .eight .ensures _ (l .inv .2))
 
 returns : tie.Need-returns Inv-loop μ-loop
 returns c =
@@ -45,9 +39,7 @@ compress-spec =
     μ-loop
     (λ c κs. search needs)
     loop-holds
-    four-requires
-    (λ c. search needs)
-    four-requires-2
+    eight-requires
     (λ c. search needs)
     (λ c. search needs)
     loop-again
