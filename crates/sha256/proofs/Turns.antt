@@ -8,10 +8,10 @@ use native.Mathlib.Omega.{arith}
 use lib.Dec.{ltb}
 use lib.ListN.{length, getD, take, drop, set, length-drop}
 use lib.Seq.{take-suc-set, take-all, getD-take, drop-drop}
-use borrow.Author.Tests.{ltb-false}
+use borrow.Author.Tests.{ltb-false, lt-ltb, le-ltb}
 use Rattle.fips.specs.declared.State.{State}
 use Rattle.fips.specs.Words.{K}
-use Rattle.fips.specs.Sha256.{pick, wordAt, word, schedule, round, rounds, add, compress, parse, hash}
+use Rattle.fips.specs.Sha256.{pick, wordAt, mix, word, schedule, round, rounds, add, compress, parse, hash}
 
 -- ---- the schedule
 
@@ -28,21 +28,31 @@ before b w t =
     let same : (k : ℕ) → 0 < k → k ≤ 16 → getD (take t w) (t - k) 0 ≡ getD w (t - k) 0 = λ k p q. getD-take t w (t - k) 0 (omega arith) in
     rw (same 2 (omega arith) (omega arith), same 7 (omega arith) (omega arith), same 15 (omega arith) (omega arith), same 16 (omega arith) (omega arith)))
 
+-- the first sixteen words are the block's own, the others are made of those before them
+pub early : (b w : List ℕ) (t v : ℕ) → t < 16 → v ≡ wordAt b t → v ≡ word b w t
+early b w t v h e = simp (lt-ltb _ _ h) e
+
+pub late : (b w : List ℕ) (t v : ℕ) → 16 ≤ t → v ≡ mix (getD w (t - 2) 0) (getD w (t - 7) 0) (getD w (t - 15) 0) (getD w (t - 16) 0) → v ≡ word b w t
+late b w t v h e = simp (le-ltb _ _ h) e
+
 pub schedule-turn : (b w : List ℕ) (t v : ℕ) → t < length w → take t w ≡ schedule b t → v ≡ word b w t
     → take (t + 1) (set w t v) ≡ schedule b (t + 1)
 unfolding schedule
 schedule-turn b w t v h e q =
     rw (add-one, ← e) (take-suc-set w t v h ∙ ap (λ (x : ℕ). take t w ++ (x ∷ [])) (q ∙ sym (before b w t)))
 
+pub first-done : (b w : List ℕ) (t : ℕ) → t ≡ 16 → take t w ≡ schedule b t → take 16 w ≡ schedule b 16
+first-done b w t h e = rw (← h) e
+
 pub schedule-done : (b w : List ℕ) (t : ℕ) → t ≡ 64 → length w ≡ 64 → take t w ≡ schedule b t → w ≡ schedule b 64
 schedule-done b w t h l e = sym (take-all t w (omega arith)) ∙ e ∙ ap (schedule b) h
 
 -- ---- the rounds
 
-pub rounds-turn : (w : List ℕ) (s r q : State) (t k : ℕ) → r ≡ rounds w s t → k ≡ getD K t 0 → q ≡ round r k (getD w t 0)
-    → q ≡ rounds w s (t + 1)
+pub rounds-turn : (w : List ℕ) (s r q : State) (t u k : ℕ) → u ≡ suc t → r ≡ rounds w s t → k ≡ getD K t 0 → q ≡ round r k (getD w t 0)
+    → q ≡ rounds w s u
 unfolding rounds
-rounds-turn w s r q t k e f g = rw add-one (g ∙ ap₂ (λ (x : State) (y : ℕ). round x y (getD w t 0)) e f)
+rounds-turn w s r q t u k n e f g = rw n (g ∙ ap₂ (λ (x : State) (y : ℕ). round x y (getD w t 0)) e f)
 
 pub rounds-done : (b w : List ℕ) (s r q : State) (t : ℕ) → t ≡ 64 → w ≡ schedule b 64 → r ≡ rounds w s t → q ≡ add s r
     → q ≡ compress s b

@@ -3,15 +3,17 @@
 use crate::words::big0;
 use crate::words::big1;
 use crate::words::ch;
-use crate::words::constant;
+use crate::words::constants;
 use crate::words::maj;
 use crate::words::small0;
 use crate::words::small1;
 use fips::State;
 use std::num::wrapping_add_u32;
 ghost use mathlib.Core.Path.{_≡_};
-ghost use Prim.Native.Nat.{_+_, _*_, _<_};
-ghost use lib.ListN.{length};
+ghost use Prim.Native.Nat.{_+_, _*_, _<_, _≤_};
+ghost use lib.ListN.{length, take};
+ghost use Rattle.fips.specs.declared.State.{State};
+ghost use Rattle.fips.specs.Words as W;
 ghost use Rattle.fips.specs.Sha256 as S;
 
 // A word of four bytes, the first the most significant.
@@ -30,27 +32,27 @@ fn mix(w2: u32, w7: u32, w15: u32, w16: u32) -> u32
     wrapping_add_u32(y, w16)
 }
 
-// Word t of the schedule, from the block and the words before it.
-fn word(b: &[u8], w: &[u32; 64], t: usize) -> u32
-    requires { ⌜ (length (now b) ≡ 64) × (t < 64) ⌝ }
-    ensures { λ r. ⌜ r ≡ S.word (now (b .entry)) (now (w .entry)) t ⌝ }
+// The first sixteen words of the schedule: those of the block's bytes.
+fn first_words(b: &[u8]) -> [u32; 64]
+    requires { ⌜ length (now b) ≡ 64 ⌝ }
+    ensures { λ r. ⌜ take 16 r ≡ S.schedule (now (b .entry)) 16 ⌝ }
 {
-    if t < 16 {
+    let mut w = [0u32; 64];
+    for t in 0..16 {
         let i = 4 * t;
-        join(b[i], b[i + 1], b[i + 2], b[i + 3])
-    } else {
-        mix(w[t - 2], w[t - 7], w[t - 15], w[t - 16])
+        w[t] = join(b[i], b[i + 1], b[i + 2], b[i + 3]);
     }
+    w
 }
 
-// The schedule of a block.
+// The schedule of a block: behind them each word is made of words before it.
 fn schedule(b: &[u8]) -> [u32; 64]
     requires { ⌜ length (now b) ≡ 64 ⌝ }
     ensures { λ r. ⌜ r ≡ S.schedule (now (b .entry)) 64 ⌝ }
 {
-    let mut w = [0u32; 64];
-    for t in 0..64 {
-        w[t] = word(b, &w, t);
+    let mut w = first_words(b);
+    for t in 16..64 {
+        w[t] = mix(w[t - 2], w[t - 7], w[t - 15], w[t - 16]);
     }
     w
 }
@@ -103,15 +105,32 @@ fn add(s: State, r: State) -> State
     }
 }
 
-// The hash value after a block.
-fn compress(s: State, b: &[u8]) -> State
-    requires { ⌜ length (now b) ≡ 64 ⌝ }
+// Eight rounds, from round t on. They are written out so that the working variables need not move.
+fn eight(s: State, k: &[u32; 64], w: &[u32; 64], t: usize) -> State
+    requires { ⌜ (t + 8 ≤ 64) × (now k ≡ W.K) ⌝ }
+    ensures { λ r. ⌜ ((x : State) → s ≡ S.rounds (now (w .entry)) x t → r ≡ S.rounds (now (w .entry)) x (t + 8)) ⌝ }
+{
+    let r1 = round(s, k[t], w[t]);
+    let r2 = round(r1, k[t + 1], w[t + 1]);
+    let r3 = round(r2, k[t + 2], w[t + 2]);
+    let r4 = round(r3, k[t + 3], w[t + 3]);
+    let r5 = round(r4, k[t + 4], w[t + 4]);
+    let r6 = round(r5, k[t + 5], w[t + 5]);
+    let r7 = round(r6, k[t + 6], w[t + 6]);
+    round(r7, k[t + 7], w[t + 7])
+}
+
+// The hash value after a block. The constants are lent: an array that a function names as a constant is laid out anew at each use.
+fn compress(s: State, k: &[u32; 64], b: &[u8]) -> State
+    requires { ⌜ (now k ≡ W.K) × (length (now b) ≡ 64) ⌝ }
     ensures { λ r. ⌜ r ≡ S.compress s (now (b .entry)) ⌝ }
 {
     let w = schedule(b);
     let mut r = s;
-    for t in 0..64 {
-        r = round(r, constant(t), w[t]);
+    let mut t = 0;
+    while t < 64 {
+        r = eight(r, k, &w, t);
+        t += 8;
     }
     add(s, r)
 }
@@ -120,11 +139,12 @@ fn compress(s: State, b: &[u8]) -> State
 pub(crate) fn blocks(s: State, m: &[u8]) -> State
     ensures { λ r. ⌜ r ≡ S.hash s (now (m .entry)) ⌝ }
 {
+    let k = constants();
     let mut r = s;
     let mut at = 0;
     while 64 <= m.len() - at {
         let next = at + 64;
-        r = compress(r, &m[at..next]);
+        r = compress(r, &k, &m[at..next]);
         at = next;
     }
     r

@@ -2,7 +2,6 @@
 // is the definition of its name, read as code.
 ghost use mathlib.Core.Path.{_≡_};
 ghost use Prim.Native.Nat.{_<_};
-ghost use lib.ListN.{getD};
 ghost use Rattle.fips.specs.Words as W;
 
 const K: [u32; 64] = [
@@ -72,12 +71,11 @@ const K: [u32; 64] = [
     0xc671_78f2,
 ];
 
-// The constant of round t.
-pub(crate) fn constant(t: usize) -> u32
-    requires { ⌜ t < 64 ⌝ }
-    ensures { λ r. ⌜ r ≡ getD W.K t 0 ⌝ }
+// The constants of the rounds.
+pub(crate) fn constants() -> [u32; 64]
+    ensures { λ r. ⌜ r ≡ W.K ⌝ }
 {
-    K[t]
+    K
 }
 
 // The rotation to the right by n.

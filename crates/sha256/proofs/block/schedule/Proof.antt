@@ -1,33 +1,33 @@
 -- `sha256::block::schedule` meets its contract: its first t words are those of the definition. Assumes nothing.
-use mathlib.Core.Path.{_≡_, refl}
+use mathlib.Core.Path.{_≡_}
 use Prim.Native.Nat.{_≤_, _-_}
 use native.Mathlib.Omega.{arith}
 use lib.ListN.{length, take, length-set}
 use borrow.Author.Needs.{needs}
 use Rattle.fips.specs.Sha256 as S
-use Rattle.sha256.proofs.Turns.{schedule-turn, schedule-done}
+use Rattle.sha256.proofs.Turns.{late, schedule-turn, schedule-done}
 use Rattle.sha256.proofs.block.schedule.Statement.{statement}
 use Rattle.sha256.proofs.block.schedule.Tie as tie
 
 abbrev Inv-loop : tie.InvT-loop
-Inv-loop b w₀ t₀ w t = (t ≤ 64) × (length w ≡ 64) × (take t w ≡ S.schedule b t)
+Inv-loop b w₀ t₀ w t = (16 ≤ t) × (t ≤ 64) × (length w ≡ 64) × (take t w ≡ S.schedule b t)
 
 abbrev μ-loop : tie.MeasureT-loop
 μ-loop b w₀ t₀ w t = 64 - t
 
 loop-holds : tie.Need-loop-holds Inv-loop μ-loop
-unfolding S.schedule
-loop-holds c = (omega arith, refl, refl)
+loop-holds c = (omega arith, omega arith, omega (arith, c .first-words .ok), c .first-words .ensures)
 
 loop-again : tie.Need-loop-again Inv-loop μ-loop
 loop-again c =
-    let l = c .before .before .before .loop in
-    (omega arith, simp length-set (omega arith), schedule-turn _ (l .w) (l .t) _ (omega arith) (l .inv .2) (c .word .ensures))
+    let l = c .before .before .loop in
+    let v = late (c .before .before .before .before .before .args .b .now) (l .w) (l .t) _ (omega arith) (c .mix .ensures) in
+    (omega arith, omega arith, simp length-set (omega arith), schedule-turn _ (l .w) (l .t) _ (omega arith) (l .inv .3) v)
 
 returns : tie.Need-returns Inv-loop μ-loop
 returns c =
     let l = c .before .loop in
-    schedule-done _ (l .w) (l .t) (omega arith) (l .inv .1) (l .inv .2)
+    schedule-done _ (l .w) (l .t) (omega arith) (l .inv .2) (l .inv .3)
 
 pub schedule-spec : {M : Type 1} → statement M
 schedule-spec =
@@ -35,7 +35,20 @@ schedule-spec =
     (tie.spec
     Inv-loop
     μ-loop
+    (λ c κs. search needs)
     loop-holds
+    (λ c. search needs)
+    (λ c. search needs)
+    (λ c. search needs)
+    (λ c. search needs)
+    (λ c. search needs)
+    (λ c. search needs)
+    (λ c. search needs)
+    (λ c. search needs)
+    (λ c. search needs)
+    (λ c. search needs)
+    (λ c. search needs)
+    (λ c. search needs)
     (λ c κs. search needs)
     (λ c. search needs)
     (λ c. search needs)

@@ -1,0 +1,79 @@
+//! What the hashing in a check or a call takes by itself: strings of the same lengths, as many as it hashes, through the same SHA-256.
+use crate::clock::alone;
+use crate::directory::Directory;
+
+/// An inner node has 99 bytes, a leaf 69, a head 101: each is two blocks. A label of a short name is one, as is nothing.
+const NODE: usize = 99;
+
+fn of(strings: &[(usize, usize)]) -> f64 {
+    let given: Vec<(usize, Vec<u8>)> = strings.iter().map(|&(many, size)| (many, vec![0x55; size])).collect();
+    alone(|| {
+        let mut sum = 0;
+        for (many, data) in &given {
+            for _ in 0..*many {
+                sum += noonhaggle::sha256(data)[0] as usize;
+            }
+        }
+        sum
+    })
+}
+
+pub fn of_nodes(many: usize) -> f64 {
+    of(&[(many, NODE)])
+}
+
+/// A proof's paths: how many, and how many steps they have together.
+fn paths(proof: &[u8], mut at: usize) -> (usize, usize) {
+    let (mut many, mut steps) = (0, 0);
+    while at < proof.len() {
+        let m = u16::from_be_bytes([proof[at], proof[at + 1]]) as usize;
+        let end = at + 2 + 34 * m;
+        at = end + 1 + [36, 68, 98, 0][proof[end] as usize];
+        many += 1;
+        steps += m;
+    }
+    (many, steps)
+}
+
+/// Keys and openings of a proof from place 108 on: where they end, and the keys' lengths.
+fn keys(proof: &[u8], many: usize) -> (usize, Vec<usize>) {
+    let (mut at, mut lengths) = (108, vec![]);
+    for _ in 0..many {
+        let n = proof[at] as usize;
+        lengths.push(n);
+        at += 1 + n + 32;
+    }
+    (at, lengths)
+}
+
+fn of_shown(proof: &[u8], many: usize, name: usize) -> f64 {
+    let (at, lengths) = keys(proof, many);
+    let (paths, steps) = paths(proof, at);
+    let mut strings = vec![(1, 101), (paths, 4 + name), (steps + paths, NODE)];
+    strings.extend(lengths.into_iter().map(|n| (1, 33 + n)));
+    of(&strings)
+}
+
+pub fn of_lookup(proof: &[u8], name: usize) -> f64 {
+    of_shown(proof, (u16::from_be_bytes([proof[106], proof[107]]) > 0) as usize, name)
+}
+
+pub fn of_history(proof: &[u8], name: usize) -> f64 {
+    of_shown(proof, u16::from_be_bytes([proof[106], proof[107]]) as usize, name)
+}
+
+/// Leaves of *all* and *old* after the last batch: each hashes its label and itself, and one inner node; a version its commitment too.
+fn leaves(d: &Directory) -> (usize, usize) {
+    let versions = (0..d.state.count as usize).map(|i| u16::from_be_bytes([d.records[168 * i + 65], d.records[168 * i + 66]]));
+    versions.fold((0, 0), |(all, old), v| (all + 1 + v.is_power_of_two() as usize, old + (v > 1) as usize))
+}
+
+pub fn of_trees(d: &Directory) -> f64 {
+    let (all, old) = leaves(d);
+    of(&[(all + old, 14), (2 * (all + old), NODE), (d.state.count as usize, 65)])
+}
+
+/// Publishing hashes the new trees once.
+pub fn of_publishing(d: &Directory) -> f64 {
+    of_trees(d)
+}

@@ -1,0 +1,2 @@
+-- Laws of the answers as C has them.
+pub mod Left
