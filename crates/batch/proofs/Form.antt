@@ -1,18 +1,18 @@
 -- The layout of a batch by places: each update is tested at its place, and what is read are the updates that stand there. Assumes nothing.
-use mathlib.Core.Path.{_≡_, refl, sym, ap, ap₂, _∙_}
+use mathlib.Core.Path.{_≡_, refl, sym, ap, _∙_}
 use mathlib.Core.Logic.{⊎-elim}
 use mathlib.Core.Bool.{Bool, true, false, _&&_, and-true, and-false}
-use mathlib.Core.List.{List, [], _∷_, _++_, map}
+use mathlib.Core.List.{[], _++_}
 use Prim.Native.Nat.{ℕ, suc, _+_, _*_, _≤_, _<_}
 use native.Mathlib.Omega.{arith}
-use lib.ListN.{length, take, drop, getD, length-drop, drop-of-length-le}
+use lib.ListN.{length, drop, length-drop, drop-of-length-le}
 use lib.Seq.{drop-drop, getD-drop}
 use Rattle.paper.specs.Lists.{every, upFrom}
 use Rattle.paper.specs.Numbers.{wide, updateSize}
 use Rattle.paper.specs.Bytes.{Bytes, Bytewise}
-use Rattle.paper.specs.Layout.{Read, got, bad, inLayout, times, whole, parse}
-use Rattle.paper.specs.Fields.{isName, digestField}
-use Rattle.paper.specs.Table.{Update, filledField, nameField, updateField}
+use Rattle.paper.specs.Layout.{got, bad, inLayout, times, whole, parse}
+use Rattle.paper.specs.Fields.{isName}
+use Rattle.paper.specs.Table.{filledField, nameField, updateField}
 use Rattle.paper.proofs.Proofs.{update-lawful}
 use Rattle.paper.proofs.Lists.{true-or-false, not-both, and-left, all-in, in-all, all-drop, every-all, all-every, in-upFrom, upFrom-in}
 use Rattle.fields.proofs.Flat.{Flat, flat-as, flat-in, flat-yes, flat-no, block-flat, seq-flat, view-flat, such-flat}

@@ -1,17 +1,16 @@
 -- The updates of a batch by their numbers. Assumes nothing.
-use mathlib.Core.Path.{_≡_, refl, sym, ap, ap₂, _∙_}
-use mathlib.Core.Bool.{Bool, true, false, not, _&&_, _||_}
-use mathlib.Core.List.{List, [], _∷_, _++_, map, map-append}
-use Prim.Native.Nat.{ℕ, zero, suc, _+_, _-_, _*_, _≤_, _<_}
+use mathlib.Core.Path.{_≡_, refl, sym, ap, _∙_}
+use mathlib.Core.Bool.{true, false}
+use mathlib.Core.List.{[], _∷_, _++_, map, map-append}
+use Prim.Native.Nat.{ℕ, suc, _+_, _-_, _*_, _≤_, _<_}
 use native.Mathlib.Nat.{zero-add}
 use native.Mathlib.Numerals.{add-one}
 use native.Mathlib.Omega.{arith}
 use lib.ListN.{length, take, drop, getD, length-map, drop-of-length-le}
 use lib.Seq.{take-take, getD-drop, drop-drop, drop-cons}
 use Rattle.paper.specs.Lists.{_∈_, upFrom, some}
-use Rattle.paper.specs.Numbers.{updateSize}
 use Rattle.paper.specs.Bytes.{Bytes, same}
-use Rattle.paper.specs.Labelling.{Labelling, plain, sameName}
+use Rattle.paper.specs.Labelling.{plain, sameName}
 use Rattle.paper.specs.Table.{Update}
 use Rattle.paper.specs.Publish.{once}
 use Rattle.paper.proofs.Lists.{upFrom-length, upFrom-snoc, getD-upFrom, in-map, map-in, in-upFrom, upFrom-in}

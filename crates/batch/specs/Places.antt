@@ -1,7 +1,7 @@
 -- The updates of a batch by their places. Where the bytes are in layout, this is what the layout reads (proofs/Form.antt).
 use mathlib.Core.Bool.{Bool}
 use mathlib.Core.List.{List, map}
-use Prim.Native.Nat.{ℕ, suc, _+_, _*_, _≤_}
+use Prim.Native.Nat.{ℕ, suc, _*_, _≤_}
 use lib.ListN.{length, take, drop, getD}
 use Rattle.paper.specs.Lists.{some, upFrom}
 use Rattle.paper.specs.Numbers.{updateSize, nameMost, keyMost, wide}

@@ -1,16 +1,15 @@
 -- Prefixes in bytes: each byte of a prefix, what a mask keeps of a byte, and a prefix that grows by a byte. Assumes nothing.
 use mathlib.Core.Path.{_≡_, refl, sym, ap, _∙_, subst}
-use mathlib.Core.List.{List, [], _∷_, _++_}
+use mathlib.Core.List.{[], _∷_, _++_}
 use Prim.Native.Nat.{ℕ, zero, suc, _+_, _-_, _*_, _/_, _%_, _^_, _<_, _≤_}
 use native.Mathlib.Nat.{mod-lt, mod-eq-of-lt, mul-add-mod-self-right, zero-div, div-eq-of-lt, div-lt-iff-lt-mul, sub-zero, add-zero}
 use native.Mathlib.Omega.{arith}
-use lib.Dec.{leb}
 use lib.ListN.{length, take, drop, getD, set}
 use lib.Seq.{take-nil, drop-drop, getD-drop}
 use lib.Pow.{pow-pos, pow-mono, split, mod-mod-pow, shr-mod}
 use lib.Bits.{bitAnd, and-high}
 use Rattle.paper.specs.Bytes.{Bytes}
-use Rattle.paper.specs.Bits.{Bits, toBits, fromBits, bitVal, bitsOf, pack}
+use Rattle.paper.specs.Bits.{Bits, toBits, fromBits, bitsOf, pack}
 use Rattle.paper.proofs.Lists.{drop-take}
 use Rattle.paper.proofs.Bytes.{toBits-length, bit-val}
 use Rattle.bits.proofs.Bits.{drop-bitsOf}

@@ -1,7 +1,7 @@
 -- Values of one size, one behind the other: the test of all is the test of each at its place, and so are the values. Assumes nothing.
-use mathlib.Core.Path.{_≡_, refl, sym, ap, ap₂, _∙_}
-use mathlib.Core.Bool.{Bool, true, false, _&&_}
-use mathlib.Core.List.{List, [], _∷_, map}
+use mathlib.Core.Path.{_≡_, refl, ap, ap₂, _∙_}
+use mathlib.Core.Bool.{Bool, _&&_}
+use mathlib.Core.List.{_∷_, map}
 use Prim.Native.Nat.{ℕ, zero, suc, _+_, _*_}
 use native.Mathlib.Nat.{zero-mul, suc-mul}
 use native.Mathlib.Omega.{arith}

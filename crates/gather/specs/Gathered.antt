@@ -9,7 +9,7 @@ use Rattle.paper.specs.Strings.{Node}
 use Rattle.paper.specs.Labelling.{plain}
 use Rattle.paper.specs.Table.{Record, byEpoch, allLeaves, oldLeaves}
 use Rattle.paper.specs.Level.{leavesIn, entrySize}
-use Rattle.record.specs.Places.{recordsIn, Stands}
+use Rattle.record.specs.Places.{Stands}
 
 -- what a record gives tree *old*, or tree *all*
 abbrev pub leavesOf : Bool → Record → List Node

@@ -1,8 +1,8 @@
 -- A label's path over leaves, once the input is tested. Assumes nothing.
-use mathlib.Core.Path.{_≡_, refl, sym, ap, _∙_}
-use mathlib.Core.Bool.{Bool, true, false, not, _&&_}
+use mathlib.Core.Path.{_≡_, refl, sym, _∙_}
+use mathlib.Core.Bool.{Bool, true, false, _&&_}
 use mathlib.Core.List.{List}
-use Prim.Native.Nat.{ℕ, _≤_, _<_}
+use Prim.Native.Nat.{_≤_, _<_}
 use lib.ListN.{length}
 use Rattle.paper.specs.Numbers.{CLASH, ROOM}
 use Rattle.paper.specs.Bytes.{Bytes, pasted}
@@ -12,7 +12,6 @@ use Rattle.paper.specs.Tree.{root}
 use Rattle.paper.specs.Path.{way}
 use Rattle.paper.specs.Fields.{pathField}
 use Rattle.paper.specs.Table.{holds, distinct}
-use Rattle.paper.specs.Level.{Laid}
 use Rattle.paper.specs.declared.TreeAnswer.the-variants as T
 use Rattle.level.specs.Rooted.{unclashed, pathOver}
 use Rattle.level.proofs.Tests.{tested, clash, no-room, written, in-bounds}

@@ -2,7 +2,7 @@
 use mathlib.Core.Path.{_≡_, sym, _∙_}
 use mathlib.Core.Logic.{_⊎_, inl, inr, ⊎-elim}
 use mathlib.Core.HLevel.{Discrete}
-use mathlib.Core.List.{List, [], List-discrete}
+use mathlib.Core.List.{List, List-discrete}
 use native.Mathlib.Decide.{ℕ-discrete}
 use lib.ListN.{length}
 use Rattle.fips.specs.Sha256.{sha256}

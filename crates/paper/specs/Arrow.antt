@@ -2,7 +2,7 @@
 -- epoch by it, a run of accepted audit steps, the strings that the checks hashed, and a collision among them.
 use mathlib.Core.Path.{_≡_}
 use mathlib.Core.List.{List, [], _∷_, _++_, map}
-use Prim.Native.Nat.{ℕ, zero, suc, _+_, _-_}
+use Prim.Native.Nat.{ℕ, _+_, _-_}
 use lib.Dec.{leb}
 use lib.ListN.{length, getD}
 use Rattle.fips.specs.Sha256.{sha256}

@@ -1,8 +1,8 @@
 -- Document 01, "Proof bytes": the fields that proofs are made of, and the layout of a path.
-use mathlib.Core.Bool.{Bool, true, false, not, _&&_}
+use mathlib.Core.Bool.{Bool, true, not, _&&_}
 use mathlib.Core.List.{List, [], _∷_, _++_}
 use Prim.Native.Nat.{ℕ, zero, suc}
-use lib.Dec.{eqb, ltb, leb}
+use lib.Dec.{eqb, leb}
 use lib.ListN.{length, take, drop}
 use Rattle.paper.specs.Lists.{every}
 use Rattle.paper.specs.Numbers.{wide, keyMost, epochMost, nameMost, nameByteLow, nameByteHigh}

@@ -1,6 +1,6 @@
 -- Document 01, "History".
-use mathlib.Core.Bool.{Bool, true, false, cond, _&&_}
-use mathlib.Core.List.{List, [], _∷_, _++_, map}
+use mathlib.Core.Bool.{Bool, _&&_}
+use mathlib.Core.List.{List, _∷_, _++_, map}
 use Prim.Native.Nat.{ℕ, zero, suc, _+_, _-_, _^_, min}
 use lib.Dec.{leb, ltb, eqb}
 use lib.ListN.{length}

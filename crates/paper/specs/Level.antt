@@ -1,13 +1,13 @@
 -- "CLASH is tried at the tree level, which takes labels directly.": leaves one behind the other in any order, the root over them, and
 -- the path of a label.
-use mathlib.Core.Bool.{Bool, true, false, not, _&&_}
+use mathlib.Core.Bool.{Bool, true, not, _&&_}
 use mathlib.Core.List.{List, [], _∷_, _++_}
 use Prim.Native.Nat.{ℕ, zero, suc, _+_, _*_, _/_, _%_}
 use lib.Dec.{eqb, leb}
 use lib.ListN.{length, take, drop}
 use Rattle.paper.specs.Numbers.{wide, recordsMost, INPUT, CLASH, ROOM}
 use Rattle.paper.specs.Bytes.{Bytes, number, pasted}
-use Rattle.paper.specs.Bits.{Bits, bitsOf}
+use Rattle.paper.specs.Bits.{bitsOf}
 use Rattle.paper.specs.Strings.{Node, leaf}
 use Rattle.paper.specs.Tree.{key, root, rootDigest}
 use Rattle.paper.specs.Path.{way}

@@ -1,12 +1,12 @@
 -- Document 01, "Path": a path as a value, the root that it gives for a label, the nodes that it hashes, and the rules of its end.
 use mathlib.Core.Bool.{Bool, true, false, cond, not, _&&_}
-use mathlib.Core.List.{List, [], _∷_, _++_, map}
-use Prim.Native.Nat.{ℕ, zero, suc, _+_}
+use mathlib.Core.List.{List, [], _∷_}
+use Prim.Native.Nat.{ℕ, suc}
 use lib.Dec.{eqb, ltb}
 use lib.ListN.{length, take, getD}
 use Rattle.paper.specs.Bytes.{Bytes, same}
 use Rattle.paper.specs.Bits.{Bits, starts}
-use Rattle.paper.specs.Strings.{Node, leaf, inner, nothing, nodeString}
+use Rattle.paper.specs.Strings.{Node, leaf, inner, nothing}
 use Rattle.paper.specs.Tree.{Tree, empty, one, fork, digest, top}
 
 -- "m steps of prefix length (2) and sibling digest (32)"

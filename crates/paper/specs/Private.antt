@@ -4,11 +4,10 @@ use mathlib.Core.Path.{_≡_}
 use mathlib.Core.List.{List, [], _∷_}
 use Prim.Native.Nat.{ℕ}
 use Rattle.paper.specs.Bytes.{Bytes, pasted}
-use Rattle.paper.specs.Labelling.{Labelling}
 use Rattle.paper.specs.Path.{Path, epochOf}
 use Rattle.paper.specs.Shows.{Item, Proof}
 use Rattle.paper.specs.Lookup.{lookupField}
-use Rattle.paper.specs.Table.{Record, byEpoch, ownRecords}
+use Rattle.paper.specs.Table.{Record}
 use Rattle.paper.specs.Write.{Written, itemOf}
 
 -- what a lookup proof says of a name: its version, key and opening, and the epoch that its version's leaf bears; version 0 has none

@@ -1,6 +1,6 @@
 -- Document 01, "The checking program": its line as a function of its input.
-use mathlib.Core.Bool.{Bool, true, false, cond, _&&_}
-use mathlib.Core.List.{List, [], _∷_, _++_}
+use mathlib.Core.Bool.{cond, _&&_}
+use mathlib.Core.List.{[], _∷_, _++_}
 use Prim.Native.Nat.{ℕ, zero, suc, _+_, _/_, _%_}
 use lib.Dec.{leb, ltb}
 use lib.ListN.{length, take, drop, getD}

@@ -1,13 +1,13 @@
 -- Document 01, "Publishing": start and publish, what they answer and every byte that they leave.
-use mathlib.Core.Bool.{Bool, true, false, cond, not, _&&_}
+use mathlib.Core.Bool.{Bool, true, not, _&&_}
 use mathlib.Core.List.{List, [], _∷_, _++_, map}
-use Prim.Native.Nat.{ℕ, zero, suc, _+_, _*_, _/_, _%_}
-use lib.Dec.{eqb, leb, ltb}
+use Prim.Native.Nat.{ℕ, suc, _+_, _*_, _/_, _%_}
+use lib.Dec.{eqb, leb}
 use lib.ListN.{length}
 use Rattle.paper.specs.Lists.{every, some}
 use Rattle.paper.specs.Numbers.{wide, versionMost, batchMost, recordSize, updateSize, INPUT, TABLE, TWICE, FULL, CLASH}
 use Rattle.paper.specs.Bytes.{Bytes, pasted}
-use Rattle.paper.specs.Labelling.{Labelling, plain, sameName}
+use Rattle.paper.specs.Labelling.{Labelling, sameName}
 use Rattle.paper.specs.Layout.{Read, got, bad, times, timesBytes, parse}
 use Rattle.paper.specs.Verdict.{Test, test, verdict}
 use Rattle.paper.specs.Table.{Record, Update, recordField, updateField, recordsWithin, headsWithin, counted, headLies, ownRecords, lastVersion, inShape, allAt, oldAt, headDigest, distinct}

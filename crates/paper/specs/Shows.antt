@@ -7,11 +7,11 @@ use lib.Dec.{eqb}
 use lib.ListN.{length, getD}
 use Rattle.fips.specs.Sha256.{sha256}
 use Rattle.paper.specs.Numbers.{wide, versionMost, INPUT, HEAD, ROOT, RULE}
-use Rattle.paper.specs.Bytes.{Bytes, zeros, same}
+use Rattle.paper.specs.Bytes.{Bytes, same}
 use Rattle.paper.specs.Bits.{Bits, bitsOf}
 use Rattle.paper.specs.Strings.{Kind, version, marker, nodeString, Head, headString, commitmentString}
 use Rattle.paper.specs.Labelling.{Labelling}
-use Rattle.paper.specs.Path.{Step, End, Path, none, pathNodes, pathRoot, lastLength, presentWith, epochOf, absent}
+use Rattle.paper.specs.Path.{Path, none, pathNodes, pathRoot, lastLength, presentWith, epochOf, absent}
 use Rattle.paper.specs.Layout.{Layout, within, seq, times, view}
 use Rattle.paper.specs.Fields.{isName, digestField, keyField, headField, opens, pathField}
 use Rattle.paper.specs.Verdict.{Test, test}

@@ -1,21 +1,20 @@
 -- Document 01, "Publishing": records and tables, their shape, the leaves and roots of an epoch, and its head.
-use mathlib.Core.Bool.{Bool, true, false, cond, not, _&&_, _||_}
-use mathlib.Core.List.{List, [], _∷_, _++_, map, flatMap}
+use mathlib.Core.Bool.{Bool, true, cond, not, _&&_}
+use mathlib.Core.List.{List, [], _∷_, _++_, flatMap}
 use Prim.Native.Nat.{ℕ, zero, suc, _+_, _-_, _*_, _/_, _%_, _^_}
 use lib.Dec.{eqb, leb, ltb}
 use lib.ListN.{length, take, drop}
 use Rattle.fips.specs.Sha256.{sha256}
 use Rattle.paper.specs.Lists.{every, some, keep}
-use Rattle.paper.specs.Numbers.{wide, keyMost, nameMost, versionMost, recordSize, recordsMost, headsMost}
+use Rattle.paper.specs.Numbers.{wide, versionMost, recordSize, recordsMost, headsMost}
 use Rattle.paper.specs.Bytes.{Bytes, zeros}
 use Rattle.paper.specs.Bits.{Bits, bitsOf, log2}
 use Rattle.paper.specs.Strings.{Node, leaf, Kind, version, marker, Head, headString, commitmentString}
 use Rattle.paper.specs.Labelling.{Labelling, sameName}
 use Rattle.paper.specs.Tree.{key, rootDigest}
 use Rattle.paper.specs.Path.{sameBits}
-use Rattle.paper.specs.Layout.{Layout, Read, got, bad, block, fixed, within, seq, led, times, such, view, parse}
+use Rattle.paper.specs.Layout.{Layout, Read, block, fixed, within, seq, led, times, such, view, parse}
 use Rattle.paper.specs.Fields.{isName, digestField, epochField}
-use Rattle.paper.specs.declared.State.{State}
 
 pub record Record : Type 0 where
   pub name : Bytes

@@ -1,5 +1,5 @@
 -- Document 01, "The tree over a set of labels": for leaves, and for audits, "where an opened node stands in place of its labels".
-use mathlib.Core.Bool.{Bool, true, false, cond}
+use mathlib.Core.Bool.{true, false}
 use mathlib.Core.List.{List, [], _∷_, _++_}
 use Prim.Native.Nat.{ℕ, zero, suc}
 use Rattle.fips.specs.Sha256.{sha256}

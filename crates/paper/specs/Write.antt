@@ -1,20 +1,19 @@
 -- The three writers of lookup, history and audit proofs: what they answer and every byte that they leave.
-use mathlib.Core.Bool.{Bool, true, false, cond, not, _&&_, _||_}
+use mathlib.Core.Bool.{Bool, false, cond, not, _&&_, _||_}
 use mathlib.Core.List.{List, [], _∷_, _++_, map}
-use Prim.Native.Nat.{ℕ, zero, suc, _+_, _-_}
+use Prim.Native.Nat.{ℕ, _+_, _-_}
 use lib.Dec.{eqb, leb}
-use lib.ListN.{length, drop}
+use lib.ListN.{length}
 use Rattle.paper.specs.Lists.{every}
 use Rattle.paper.specs.Numbers.{INPUT, TABLE, EPOCH, CLASH, ROOM}
 use Rattle.paper.specs.Bytes.{Bytes, pasted}
-use Rattle.paper.specs.Bits.{Bits}
 use Rattle.paper.specs.Strings.{Node, leaf, inner, nothing}
 use Rattle.paper.specs.Labelling.{Labelling}
 use Rattle.paper.specs.Tree.{Tree, empty, one, fork, digest, top, root}
 use Rattle.paper.specs.Path.{Path, way}
-use Rattle.paper.specs.Layout.{Layout, Read, got, bad}
+use Rattle.paper.specs.Layout.{Read, got, bad}
 use Rattle.paper.specs.Fields.{isName}
-use Rattle.paper.specs.Verdict.{Test, test, verdict}
+use Rattle.paper.specs.Verdict.{test, verdict}
 use Rattle.paper.specs.Shows.{Place, inAll, inOld, asMarker, Asked, Item, Proof, labelAt}
 use Rattle.paper.specs.Lookup.{lookupAsked, lookupField}
 use Rattle.paper.specs.History.{historyAsked, historyField}

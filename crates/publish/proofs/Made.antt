@@ -1,8 +1,7 @@
 -- A new record's bytes, from an update's. Assumes nothing.
-use mathlib.Core.Path.{_≡_, refl, sym, ap, ap₂, _∙_}
-use mathlib.Core.Bool.{Bool, true, false}
-use mathlib.Core.List.{List, [], _∷_, _++_, map, append-assoc}
-use Prim.Native.Nat.{ℕ, suc, _+_, _*_, _≤_, _<_}
+use mathlib.Core.Path.{_≡_, sym, ap, ap₂, _∙_}
+use mathlib.Core.List.{_++_, append-assoc}
+use Prim.Native.Nat.{ℕ, _+_, _≤_}
 use native.Mathlib.Omega.{arith}
 use lib.ListN.{length, take, drop, length-append, length-drop}
 use lib.Seq.{length-take-le, drop-drop, take-at, drop-at}
@@ -11,7 +10,7 @@ use Rattle.paper.specs.Layout.{view, seq, such, within, block}
 use Rattle.paper.specs.Table.{Update, filledField, recordField, updateField}
 use Rattle.paper.proofs.Bytes.{be-length}
 use Rattle.paper.proofs.Kept.{filled-length}
-use Rattle.words.proofs.Pasted.{length-part, pasted-pasted}
+use Rattle.words.proofs.Pasted.{pasted-pasted}
 use Rattle.publish.specs.Weighed.{recordOver}
 
 -- four parts, one behind the other

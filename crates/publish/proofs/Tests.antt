@@ -1,6 +1,6 @@
 -- The order of publishing's tests, "1, 11, 9, 6, 7": each refusal where the tests before it pass, and what publishing leaves where all
 -- pass. Assumes nothing.
-use mathlib.Core.Path.{_≡_, refl, sym, ap, _∙_}
+use mathlib.Core.Path.{_≡_, refl, ap, _∙_}
 use mathlib.Core.Bool.{Bool, true, false, _&&_, true≢false}
 use mathlib.Core.List.{List, [], _∷_, _++_, map}
 use Prim.Native.Nat.{suc, _+_, _*_, _/_}

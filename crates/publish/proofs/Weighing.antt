@@ -1,24 +1,24 @@
 -- What each test of publishing says of the whole: a refusal, or that the next test decides. Assumes nothing.
-use mathlib.Core.Path.{_≡_, refl, sym, ap, ap₂, _∙_}
+use mathlib.Core.Path.{_≡_, refl, sym, ap, _∙_}
 use mathlib.Core.Logic.{⊎-elim}
 use mathlib.Core.Bool.{Bool, true, false, _&&_, and-false}
-use mathlib.Core.List.{List, [], _∷_, _++_, append-nil}
+use mathlib.Core.List.{List, [], _++_}
 use Prim.Native.Nat.{ℕ, suc, _+_, _*_, _/_, _%_, _^_, _≤_, _<_}
 use native.Mathlib.Omega.{arith}
 use lib.Dec.{eqb, leb}
-use lib.ListN.{length, take, drop, length-map, take-append-drop}
+use lib.ListN.{length, take, drop, length-map}
 use borrow.Author.Tests.{eqb-true, leb-true}
 use Rattle.paper.specs.Lists.{All, every}
 use Rattle.paper.specs.Numbers.{wide, versionMost, recordSize, updateSize, headsMost, INPUT, TABLE, TWICE, FULL, CLASH}
-use Rattle.paper.specs.Bytes.{Bytes, Bytewise, pasted}
+use Rattle.paper.specs.Bytes.{Bytes, Bytewise}
 use Rattle.paper.specs.Strings.{headString}
 use Rattle.paper.specs.Labelling.{plain}
-use Rattle.paper.specs.Layout.{Read, got, bad, inLayout, times, timesBytes, parse}
+use Rattle.paper.specs.Layout.{got, inLayout, times, timesBytes, parse}
 use Rattle.paper.specs.Table.{Record, Update, recordField, updateField, recordsWithin, headsWithin, headOf, headDigest, counted}
 use Rattle.paper.specs.Publish.{newRecord, once, unpublished, batchWithin, publish}
 use Rattle.paper.specs.declared.State.{State}
 use Rattle.paper.specs.declared.PublishAnswer.the-variants as P
-use Rattle.paper.proofs.Lists.{true-or-false, not-both, and-left, and-right, and-both, every-all, in-all, all-in, map-in}
+use Rattle.paper.proofs.Lists.{true-or-false, and-left, and-right, and-both, every-all, in-all, all-in, map-in}
 use Rattle.paper.proofs.Layouts.{times-lawful, parse-bytes}
 use Rattle.paper.proofs.Proofs.{record-lawful}
 use Rattle.paper.proofs.Success.{record-new}
@@ -26,10 +26,10 @@ use Rattle.paper.proofs.Fits.{digest-wide}
 use Rattle.record.specs.Places.{recordsIn, Stands}
 use Rattle.table.specs.Shape.{shaped, Shaped}
 use Rattle.table.proofs.Read.{counted-told, counted-stands}
-use Rattle.batch.specs.Places.{updateAt, updatesIn, Lies}
+use Rattle.batch.specs.Places.{updatesIn, Lies}
 use Rattle.batch.proofs.Places.{updates-length, in-updates}
 use Rattle.batch.proofs.Form.{batch-read, batch-formed, batch-lies, update-told}
-use Rattle.publish.specs.Weighed.{inputGood, refusedBy, newRecords, leaving, apart, Clear, Weighs}
+use Rattle.publish.specs.Weighed.{inputGood, refusedBy, newRecords, apart, Clear, Weighs}
 use Rattle.publish.proofs.Tests.{out-of-bounds, out-of-layout, out-of-shape, twice, full, clash, passed}
 
 module _ (records heads : Bytes) (count epoch : ℕ) (batch : Bytes) where

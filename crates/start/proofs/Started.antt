@@ -1,12 +1,12 @@
 -- Starting: the root over no leaves, the only test, and head 0. Assumes nothing.
-use mathlib.Core.Path.{_≡_, refl, sym, ap, ap₂, _∙_}
+use mathlib.Core.Path.{_≡_, refl}
 use mathlib.Core.Bool.{true, false}
 use mathlib.Core.List.{[], flatMap}
-use Prim.Native.Nat.{_*_, _/_, _%_, _≤_}
+use Prim.Native.Nat.{_/_, _%_, _≤_}
 use native.Mathlib.Omega.{arith}
-use lib.Dec.{eqb, leb}
+use lib.Dec.{eqb}
 use lib.ListN.{length}
-use borrow.Author.Tests.{eqb-true, leb-true}
+use borrow.Author.Tests.{leb-true}
 use Rattle.fips.specs.Sha256.{sha256}
 use Rattle.paper.specs.Lists.{keep}
 use Rattle.paper.specs.Numbers.{wide}
@@ -15,7 +15,7 @@ use Rattle.paper.specs.Bits.{pack, fromBits}
 use Rattle.paper.specs.Strings.{headString, innerString, nothingString}
 use Rattle.paper.specs.Labelling.{plain}
 use Rattle.paper.specs.Tree.{root, rootDigest, side}
-use Rattle.paper.specs.Table.{headsWithin, byEpoch, headDigest}
+use Rattle.paper.specs.Table.{headsWithin, byEpoch}
 use Rattle.paper.specs.Verdict.{verdict}
 use Rattle.paper.specs.Publish.{Started, start}
 use Rattle.paper.specs.declared.StartAnswer.the-variants as S

@@ -1,15 +1,14 @@
 -- Cases of the three checkers, of starting and of the checking program, worked out by computation from the definitions alone, down to
 -- SHA-256. Heads, proofs and answers are those of an independent implementation. Assumes nothing.
 use mathlib.Core.Path.{_≡_, refl}
-use mathlib.Core.List.{List, [], _∷_, flatMap}
-use Prim.Native.Nat.{ℕ}
+use mathlib.Core.List.{[], _∷_, flatMap}
 use Rattle.fips.specs.Sha256 as F
-use Rattle.paper.specs.Lists.{every, some, keep, upFrom}
-use Rattle.paper.specs.Bytes.{Bytes, be, number, same, pasted}
-use Rattle.paper.specs.Bits.{toBits, bitsOf, fromBits, pack, starts, lcp, topPower, log2}
+use Rattle.paper.specs.Lists.{every, keep, upFrom}
+use Rattle.paper.specs.Bytes.{be, number, same, pasted}
+use Rattle.paper.specs.Bits.{toBits, bitsOf, fromBits, pack, starts, topPower, log2}
 use Rattle.paper.specs.Strings.{leafString, innerString, nothingString, headBytes, headString, labelString, commitmentString}
 use Rattle.paper.specs.Labelling.{plain}
-use Rattle.paper.specs.Tree.{common, side, build, root}
+use Rattle.paper.specs.Tree.{side, build, root}
 use Rattle.paper.specs.Path.{stepNode, pathTop, pathNodes, lastLength, sameBits, presentWith, absent}
 use Rattle.paper.specs.Layout.{block, fixed, within, seq, led, times, timesRead, timesBytes, such, view, never}
 use Rattle.paper.specs.Fields.{isName, riseFrom, rise, endOf}
@@ -17,9 +16,9 @@ use Rattle.paper.specs.Verdict.{verdict}
 use Rattle.paper.specs.Shows.{epochAt, commitmentAt, meets, pathTests, pathStrings, proofStrings, proofTests, inputTests}
 use Rattle.paper.specs.Lookup.{checkLookup}
 use Rattle.paper.specs.History.{checkHistory}
-use Rattle.paper.specs.Audit.{checkAudit, recordOf, olds, news, before?, inOrder, auditTests, auditStrings}
+use Rattle.paper.specs.Audit.{checkAudit, recordOf, olds, news, inOrder, auditTests, auditStrings}
 use Rattle.paper.specs.Answer.{lookupNumber, lookupValues, historyNumber, historyValues, auditNumber, auditValues}
-use Rattle.paper.specs.Table.{headsWithin, byEpoch, headAt}
+use Rattle.paper.specs.Table.{headsWithin, byEpoch}
 use Rattle.paper.specs.Publish.{start}
 use Rattle.paper.specs.Program.{programLine, decimalIn}
 

@@ -4,7 +4,7 @@
 use mathlib.Core.Path.{_≡_, refl, ap}
 use mathlib.Core.Logic.{_⊎_}
 use mathlib.Core.Bool.{true, _&&_}
-use mathlib.Core.List.{List, [], _∷_}
+use mathlib.Core.List.{[], _∷_}
 use Prim.Native.Nat.{ℕ, suc}
 use lib.Dec.{eqb}
 use lib.ListN.{getD}

@@ -2,8 +2,8 @@
 use borrow.Author.Needs.{needs}
 use native.Mathlib.Numerals.{add-one}
 use native.Mathlib.Omega.{arith}
-use mathlib.Core.Path.{_≡_, refl, sym, ap, ap₂, _∙_}
-use Prim.Native.Nat.{suc, _+_, _-_, _≤_}
+use mathlib.Core.Path.{_≡_, sym, ap, ap₂, _∙_}
+use Prim.Native.Nat.{suc, _-_, _≤_}
 use Rattle.paper.specs.Bytes.{same}
 use Rattle.batch.specs.Places.{updateAt, bearsFrom}
 use Rattle.batch.proofs.Places.{bears-none, bears-pass, bears-hit}

@@ -5,8 +5,7 @@ use borrow.Author.Tests.{not-true, not-false}
 use native.Mathlib.Omega.{arith}
 use mathlib.Core.Path.{_≡_, sym, ap, _∙_}
 use mathlib.Core.Bool.{true}
-use Prim.Native.Nat.{ℕ, _+_, _-_, _*_, _≤_, _<_}
-use Rattle.paper.specs.Bytes.{Bytewise}
+use Prim.Native.Nat.{ℕ, _-_, _≤_, _<_}
 use Rattle.paper.specs.Layout.{inLayout}
 use Rattle.words.proofs.Slices.{bytewise}
 use Rattle.batch.proofs.Form.{formed, batch-read, batch-bad}

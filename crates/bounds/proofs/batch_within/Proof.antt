@@ -1,8 +1,5 @@
 -- `bounds::batch_within`: the tests are the definition's.
 use mathlib.Core.Path.{sym}
-use Prim.Native.Nat.{_/_, _%_}
-use lib.Dec.{leb}
-use lib.ListN.{length}
 use Rattle.paper.specs.Publish.{batchWithin}
 use Rattle.bounds.proofs.Multiple.{no-multiple, multiple}
 use Rattle.bounds.proofs.batch_within.Statement.{statement}

@@ -1,8 +1,5 @@
 -- `bounds::entries_within`: the tests are the definition's.
 use mathlib.Core.Path.{sym}
-use Prim.Native.Nat.{_/_, _%_}
-use lib.Dec.{leb}
-use lib.ListN.{length}
 use Rattle.paper.specs.Level.{entriesWithin}
 use Rattle.bounds.proofs.Multiple.{no-multiple, multiple}
 use Rattle.bounds.proofs.entries_within.Statement.{statement}

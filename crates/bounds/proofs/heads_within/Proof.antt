@@ -1,8 +1,7 @@
 -- `bounds::heads_within`: the tests are the definition's.
 use native.Mathlib.Omega.{arith}
 use mathlib.Core.Path.{sym, _∙_}
-use Prim.Native.Nat.{_/_, _%_}
-use lib.Dec.{leb}
+use Prim.Native.Nat.{_/_}
 use lib.ListN.{length}
 use borrow.Author.Tests.{le-leb, lt-leb}
 use Rattle.paper.specs.Table.{headsWithin}

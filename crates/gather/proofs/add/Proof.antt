@@ -1,8 +1,6 @@
 -- `gather::add`: a record's leaves, unless it is later than the epoch.
 use borrow.Author.Needs.{needs}
 use native.Mathlib.Omega.{arith}
-use mathlib.Core.Path.{ap, sym, _∙_}
-use Prim.Native.Nat.{_≤_, _<_}
 use Rattle.record.specs.Places.{recordAt}
 use Rattle.gather.proofs.Row.{gain-none}
 use Rattle.gather.proofs.Leaves.{by-later, by-then}

@@ -1,13 +1,13 @@
 -- `gather::add_all`: the version's leaf, and the marker's where the version is a power of two.
 use borrow.Author.Needs.{needs}
 use native.Mathlib.Omega.{arith}
-use mathlib.Core.Path.{_≡_, ap, ap₂, sym, _∙_}
+use mathlib.Core.Path.{_≡_, ap, sym, _∙_}
 use mathlib.Core.List.{[], _∷_}
-use Prim.Native.Nat.{ℕ, _*_, _%_, _^_, _≤_, _<_}
+use Prim.Native.Nat.{_*_, _%_, _^_, _≤_, _<_}
 use Rattle.paper.specs.Numbers.{wide}
 use Rattle.paper.specs.Bytes.{zeros}
 use Rattle.paper.specs.Bits.{bitsOf, log2}
-use Rattle.paper.specs.Strings.{Node, leaf}
+use Rattle.paper.specs.Strings.{leaf}
 use Rattle.paper.specs.Table.{Record}
 use Rattle.record.specs.Places.{recordAt}
 use Rattle.gather.specs.Gathered.{Gained}

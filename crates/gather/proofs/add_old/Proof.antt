@@ -1,14 +1,12 @@
 -- `gather::add_old`: the replaced version's leaf, if there is one.
 use borrow.Author.Needs.{needs}
 use native.Mathlib.Omega.{arith}
-use mathlib.Core.Path.{_≡_, ap, ap₂, _∙_}
-use mathlib.Core.List.{[], _∷_}
-use Prim.Native.Nat.{_+_, _-_, _≤_}
-use Rattle.fips.specs.Sha256.{sha256}
+use mathlib.Core.Path.{_≡_}
+use Prim.Native.Nat.{_-_}
 use Rattle.paper.specs.Numbers.{wide}
 use Rattle.paper.specs.Bytes.{zeros}
 use Rattle.paper.specs.Bits.{bitsOf}
-use Rattle.paper.specs.Strings.{Node, leaf, labelString}
+use Rattle.paper.specs.Strings.{leaf}
 use Rattle.record.specs.Places.{recordAt}
 use Rattle.gather.proofs.Row.{gain-none}
 use Rattle.gather.proofs.Leaves.{name-few, old-none, old-one, replacedLeaf}

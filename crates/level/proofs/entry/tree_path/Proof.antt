@@ -3,15 +3,15 @@ use borrow.Author.Needs.{needs}
 use borrow.Author.Tests.{not-true, not-false, eq-eqb, ne-eqb}
 use native.Mathlib.Omega.{arith}
 use mathlib.Core.Path.{_≡_, sym, ap, _∙_, subst}
-use mathlib.Core.Bool.{true, false, _&&_, and-false}
-use Prim.Native.Nat.{_*_, _/_, _≤_}
+use mathlib.Core.Bool.{true, _&&_, and-false}
+use Prim.Native.Nat.{_/_}
 use lib.Dec.{eqb}
 use lib.ListN.{length, take}
 use Rattle.paper.specs.Bits.{bitsOf}
-use Rattle.paper.specs.Level.{leavesIn, leavesOf, entriesWithin, treePath}
+use Rattle.paper.specs.Level.{leavesIn, entriesWithin, treePath}
 use Rattle.level.specs.Rooted.{pathOver}
 use Rattle.level.proofs.Tests.{out-of-bounds, in-bounds}
-use Rattle.level.proofs.Row.{copied, Fits, fits}
+use Rattle.level.proofs.Row.{copied, fits}
 use Rattle.level.proofs.entry.tree_path.Statement.{statement}
 use Rattle.level.proofs.entry.tree_path.Tie as tie
 use Rattle.level.proofs.entry.tree_path.Reads as reads

@@ -3,10 +3,9 @@ use borrow.Author.Needs.{needs}
 use borrow.Author.Tests.{not-true, not-false}
 use native.Mathlib.Omega.{arith}
 use mathlib.Core.Path.{_≡_, sym, ap, ap₂, _∙_, subst}
-use mathlib.Core.Bool.{true, false}
-use Prim.Native.Nat.{_*_, _/_, _≤_, _<_}
+use mathlib.Core.Bool.{true}
+use Prim.Native.Nat.{_/_}
 use lib.ListN.{length, take}
-use lib.Seq.{length-take-le}
 use Rattle.paper.specs.Bytes.{pasted}
 use Rattle.paper.specs.Strings.{nodeString}
 use Rattle.paper.specs.Tree.{top, root, rootDigest}
@@ -16,7 +15,7 @@ use Rattle.paper.specs.declared.TreeAnswer.the-variants as T
 use Rattle.paper.proofs.Fits.{digest-wide}
 use Rattle.level.specs.Rooted.{Roots}
 use Rattle.level.proofs.Tests.{out-of-bounds, clash, no-room, written}
-use Rattle.level.proofs.Row.{copied, Fits, fits}
+use Rattle.level.proofs.Row.{copied, fits}
 use Rattle.level.proofs.entry.tree_root.Statement.{statement}
 use Rattle.level.proofs.entry.tree_root.Tie as tie
 use Rattle.level.proofs.entry.tree_root.Reads as reads

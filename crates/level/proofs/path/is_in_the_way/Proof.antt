@@ -1,6 +1,6 @@
 -- `level::path::is_in_the_way`: asked only where the label is to be shown absent.
 use borrow.Author.Tests.{not-true, not-false}
-use mathlib.Core.Path.{_≡_, sym, _∙_}
+use mathlib.Core.Path.{sym, _∙_}
 use borrow.Author.Needs.{needs}
 use Rattle.level.proofs.path.is_in_the_way.Statement.{statement}
 use Rattle.level.proofs.path.is_in_the_way.Tie as tie

@@ -3,12 +3,9 @@ use borrow.Author.Needs.{needs}
 use borrow.Author.Tests.{not-true, not-false}
 use native.Mathlib.Omega.{arith}
 use mathlib.Core.Path.{_≡_, sym, ap, _∙_}
-use mathlib.Core.Bool.{true, false, false≢true}
-use Prim.Native.Nat.{_*_, _≤_}
-use lib.ListN.{length, take}
+use mathlib.Core.Bool.{true, false≢true}
 use lib.Seq.{length-take-le}
 use Rattle.paper.specs.Tree.{digest, top}
-use Rattle.paper.specs.Level.{leavesIn}
 use Rattle.tree.specs.Stored.{Sorted}
 use Rattle.tree.proofs.Slots.{stored-root}
 use Rattle.level.proofs.root.root_of.Statement.{statement}

@@ -4,8 +4,8 @@ use borrow.Author.Tests.{le-leb, lt-leb}
 use native.Mathlib.Numerals.{add-one}
 use native.Mathlib.Omega.{arith}
 use mathlib.Core.Path.{_≡_, sym, ap, _∙_}
-use mathlib.Core.Bool.{true, false, false≢true}
-use Prim.Native.Nat.{ℕ, suc, _+_, _*_, _≤_, _<_}
+use mathlib.Core.Bool.{false≢true}
+use Prim.Native.Nat.{suc, _*_}
 use lib.ListN.{drop}
 use Rattle.paper.specs.Numbers.{versionMost}
 use Rattle.paper.specs.Bytes.{pasted}

@@ -4,12 +4,12 @@ use borrow.Author.Tests.{not-true, not-false}
 use native.Mathlib.Numerals.{add-one}
 use native.Mathlib.Omega.{arith}
 use mathlib.Core.Path.{_≡_, refl, sym, _∙_, subst}
-use mathlib.Core.Bool.{true, false, false≢true}
-use Prim.Native.Nat.{ℕ, suc, _+_, _-_, _*_, _≤_, _<_}
+use mathlib.Core.Bool.{false≢true}
+use Prim.Native.Nat.{ℕ, suc, _-_, _*_, _≤_, _<_}
 use lib.ListN.{length}
 use Rattle.words.proofs.Slices.{bytewise}
 use Rattle.batch.proofs.Form.{formed-lies}
-use Rattle.publish.proofs.Prepared.{numbered, made, Begun, begun-none, begun-more, begun-stop}
+use Rattle.publish.proofs.Prepared.{Begun, begun-none, begun-more, begun-stop}
 use Rattle.publish.proofs.fresh.prepare.Statement.{statement}
 use Rattle.publish.proofs.fresh.prepare.Tie as tie
 use Rattle.publish.proofs.fresh.prepare.Reads as reads

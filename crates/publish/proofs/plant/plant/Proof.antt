@@ -1,13 +1,12 @@
 -- `publish::plant::plant`: the leaves of the table's records and behind them those of the new ones are the tree's.
 use borrow.Author.Needs.{needs}
 use native.Mathlib.Omega.{arith}
-use mathlib.Core.Path.{_≡_, sym, ap, ap₂, _∙_, subst}
+use mathlib.Core.Path.{sym, ap, _∙_, subst}
 use mathlib.Core.List.{List, _++_}
 use Prim.Native.Nat.{_+_, _*_, _≤_}
-use lib.ListN.{length, take, length-append}
+use lib.ListN.{length}
 use lib.Seq.{length-take-le}
 use Rattle.paper.specs.Strings.{Node}
-use Rattle.paper.specs.Level.{leavesIn}
 use Rattle.record.specs.Places.{recordsIn}
 use Rattle.gather.specs.Gathered.{leavesBy, Gained}
 use Rattle.gather.proofs.Row.{leaves-none, leaves-taken, gain-more}

@@ -2,11 +2,10 @@
 use borrow.Author.Needs.{needs}
 use native.Mathlib.Numerals.{add-one}
 use native.Mathlib.Omega.{arith}
-use mathlib.Core.Path.{_≡_, sym, ap, ap₂, _∙_}
-use Prim.Native.Nat.{suc, _+_, _*_, _/_, _^_, _≤_, _<_}
-use lib.ListN.{length, take}
+use mathlib.Core.Path.{sym, _∙_}
+use Prim.Native.Nat.{_*_, _/_, _≤_}
+use lib.ListN.{length}
 use lib.Seq.{length-take-le}
-use Rattle.paper.specs.Bytes.{pasted}
 use Rattle.publish.specs.Weighed.{Clear}
 use Rattle.publish.proofs.publishing.publish.Statement.{statement}
 use Rattle.publish.proofs.publishing.publish.Tie as tie

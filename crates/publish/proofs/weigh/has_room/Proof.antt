@@ -1,9 +1,8 @@
 -- `publish::weigh::has_room`: the two tests.
 use borrow.Author.Tests.{le-leb, lt-leb}
 use native.Mathlib.Omega.{arith}
-use mathlib.Core.Path.{_≡_, sym}
-use Prim.Native.Nat.{_+_, _*_, _≤_}
-use lib.Dec.{leb}
+use mathlib.Core.Path.{sym}
+use Prim.Native.Nat.{_+_, _*_}
 use lib.ListN.{length}
 use borrow.Author.Needs.{needs}
 use Rattle.publish.proofs.weigh.has_room.Statement.{statement}

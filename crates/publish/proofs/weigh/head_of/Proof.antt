@@ -3,12 +3,12 @@ use borrow.Author.Needs.{needs}
 use borrow.Author.Tests.{not-true, not-false}
 use native.Mathlib.Numerals.{add-one}
 use native.Mathlib.Omega.{arith}
-use mathlib.Core.Path.{_≡_, refl, sym, ap, _∙_}
-use mathlib.Core.Bool.{true, false, and-false}
+use mathlib.Core.Path.{refl, sym, _∙_}
+use mathlib.Core.Bool.{and-false}
 use mathlib.Core.List.{List, _++_}
-use Prim.Native.Nat.{ℕ, suc, _+_, _*_, _≤_}
+use Prim.Native.Nat.{suc, _+_}
 use Rattle.paper.specs.Labelling.{plain}
-use Rattle.paper.specs.Table.{Record, allAt, oldAt, distinct, headAt, headDigest}
+use Rattle.paper.specs.Table.{Record, allAt, oldAt, distinct, headAt}
 use Rattle.paper.proofs.Lists.{and-both}
 use Rattle.record.specs.Places.{recordsIn}
 use Rattle.level.specs.Rooted.{Roots}

@@ -2,12 +2,9 @@
 use borrow.Author.Needs.{needs}
 use borrow.Author.Tests.{not-true, not-false, eqb-true}
 use native.Mathlib.Omega.{arith}
-use mathlib.Core.Path.{_≡_, sym, _∙_}
-use mathlib.Core.Bool.{true, false, and-false}
-use Prim.Native.Nat.{_*_, _/_, _%_}
-use lib.Dec.{eqb}
+use mathlib.Core.Path.{sym, _∙_}
+use Prim.Native.Nat.{_%_}
 use lib.ListN.{length}
-use Rattle.paper.specs.Table.{recordsWithin, headsWithin}
 use Rattle.paper.specs.Publish.{batchWithin}
 use Rattle.paper.proofs.Lists.{and-left}
 use Rattle.publish.specs.Weighed.{inputGood}

@@ -3,14 +3,12 @@ use borrow.Author.Needs.{needs}
 use borrow.Author.Tests.{not-true, not-false, leb-true}
 use native.Mathlib.Numerals.{add-one}
 use native.Mathlib.Omega.{arith}
-use mathlib.Core.Path.{_≡_, refl, sym, ap, _∙_, subst}
-use mathlib.Core.Bool.{true, false, _&&_}
+use mathlib.Core.Path.{_≡_, refl, sym, _∙_, subst}
+use mathlib.Core.Bool.{true, _&&_}
 use mathlib.Core.List.{_++_}
 use Prim.Native.Nat.{ℕ, suc, _+_, _*_, _/_, _^_, _≤_, _<_}
 use lib.Dec.{leb}
 use lib.ListN.{length}
-use Rattle.paper.specs.Lists.{every}
-use Rattle.paper.specs.Numbers.{versionMost}
 use Rattle.paper.specs.Bytes.{Bytewise}
 use Rattle.paper.specs.Labelling.{plain}
 use Rattle.paper.specs.Publish.{once}
@@ -20,7 +18,7 @@ use Rattle.record.specs.Places.{recordsIn, Stands}
 use Rattle.table.specs.Shape.{Shaped}
 use Rattle.table.proofs.Shapes.{shaped-told}
 use Rattle.batch.specs.Places.{updatesIn}
-use Rattle.publish.specs.Weighed.{refusedBy, newRecords, Ready, Prepared, Plantable, Headed, Weighs}
+use Rattle.publish.specs.Weighed.{newRecords, Prepared, Headed}
 use Rattle.publish.proofs.Weighing.{refuses, input-refuses, Good, good, table-refuses, twice-refuses, room-refuses, version-refuses, clash-refuses, clear-leaves, epoch-small, records-few, fresh-stand, fresh-is}
 use Rattle.publish.proofs.weigh.weigh.Statement.{statement}
 use Rattle.publish.proofs.weigh.weigh.Tie as tie
