@@ -11,14 +11,15 @@ use crate::{BO, IDA};
 pub struct Lie {
     pub tale: &'static str,
     pub told: String,
+    pub believed: bool,
 }
 
 fn lie<T: std::fmt::Debug>(tale: &'static str, who: &str, answer: Result<T, Refusal>) -> Lie {
-    let told = match answer {
-        Ok(answer) => format!("{who}: ACCEPTED {answer:?}"),
-        Err(refusal) => format!("{who}: {refusal}"),
+    let (told, believed) = match answer {
+        Ok(answer) => (format!("{who}: ACCEPTED {answer:?}"), true),
+        Err(refusal) => (format!("{who}: {refusal}"), false),
     };
-    Lie { tale, told }
+    Lie { tale, told, believed }
 }
 
 /// Trees as the server would have them.

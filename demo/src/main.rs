@@ -71,8 +71,10 @@ fn main() -> std::io::Result<()> {
     let d = published();
     handset(&d);
     println!("\nA server that lies, and what it is told");
-    for lie in bad::lies(&d) {
+    let lies = bad::lies(&d);
+    for lie in &lies {
         println!("  {}\n      {}", lie.tale, lie.told);
     }
+    assert!(lies.iter().all(|lie| !lie.believed), "a lie was believed");
     files(&d, &std::env::args().nth(1).unwrap_or_else(|| "target/demo".into()))
 }
