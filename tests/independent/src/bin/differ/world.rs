@@ -183,7 +183,7 @@ impl World {
         out.put(WRITE_AUDIT, self.writing(WRITE_AUDIT, &[], 0, 1000), "an audit of new epoch 0", INPUT)
     }
 
-    /// A request to one of the four calls with tables, of this directory; a call that is not made for it is refused for `want`.
+    /// A request to one of the four calls with tables.
     fn put_any(&self, aim: &'static str, want: Want, rng: &mut Rng, out: &mut Cases) {
         let call = *rng.pick(&[PUBLISH, WRITE_LOOKUP, WRITE_HISTORY, WRITE_AUDIT]);
         if call == PUBLISH {
