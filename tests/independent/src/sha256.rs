@@ -63,16 +63,15 @@ fn compress(state: &mut [u32; 8], block: &[u8]) {
         w[t] = large.wrapping_add(w[t - 7]).wrapping_add(small).wrapping_add(w[t - 16]);
     }
     let [mut a, mut b, mut c, mut d, mut e, mut f, mut g, mut h] = *state;
-    for t in (0..64).step_by(8) {
-        let x = |i: usize| K[t + i].wrapping_add(w[t + i]);
-        round!(a b c d e f g h, x(0));
-        round!(h a b c d e f g, x(1));
-        round!(g h a b c d e f, x(2));
-        round!(f g h a b c d e, x(3));
-        round!(e f g h a b c d, x(4));
-        round!(d e f g h a b c, x(5));
-        round!(c d e f g h a b, x(6));
-        round!(b c d e f g h a, x(7));
+    for (k, w) in K.chunks_exact(8).zip(w.chunks_exact(8)) {
+        round!(a b c d e f g h, k[0].wrapping_add(w[0]));
+        round!(h a b c d e f g, k[1].wrapping_add(w[1]));
+        round!(g h a b c d e f, k[2].wrapping_add(w[2]));
+        round!(f g h a b c d e, k[3].wrapping_add(w[3]));
+        round!(e f g h a b c d, k[4].wrapping_add(w[4]));
+        round!(d e f g h a b c, k[5].wrapping_add(w[5]));
+        round!(c d e f g h a b, k[6].wrapping_add(w[6]));
+        round!(b c d e f g h a, k[7].wrapping_add(w[7]));
     }
     for (word, more) in state.iter_mut().zip([a, b, c, d, e, f, g, h]) {
         *word = word.wrapping_add(more);
