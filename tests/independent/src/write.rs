@@ -1,7 +1,7 @@
 //! Writers: "Proof bytes", from tables.
 
 use crate::plan::{history_plan, lookup_plan, Asked, Which};
-use crate::strings::{leaf, opening, Digest, ZERO};
+use crate::strings::{opening, Digest, ZERO};
 use crate::table::{counted, in_shape, is_name, leaves, within, Record, State, HEAD};
 use crate::tree::{opened, root_of, Item, Node, Nodes, Side, Tree};
 use crate::{need, no};
@@ -153,7 +153,7 @@ impl<'a> Listed<'a> {
     fn side(&mut self, side: Side, digest: &Digest, fresh: &[bool]) {
         match side {
             Side::Nothing => {}
-            Side::Item(leaf) => self.leaf(leaf),
+            Side::Item(leaf) => self.leaf(leaf, digest),
             Side::Node(i) => {
                 let node = &self.tree.nodes[i];
                 if !fresh[i] {
@@ -166,7 +166,7 @@ impl<'a> Listed<'a> {
         }
     }
 
-    fn leaf(&mut self, i: usize) {
+    fn leaf(&mut self, i: usize, digest: &Digest) {
         let x = &self.tree.leaves[i];
         self.count += 1;
         self.bytes.extend([if self.is_new(i) { 2 } else { 0 }, 1, 0]);
@@ -175,7 +175,7 @@ impl<'a> Listed<'a> {
         self.bytes.extend(x.epoch.to_be_bytes());
         self.bytes.extend([0; 28]);
         if !self.is_new(i) {
-            self.unchanged.push(Item { prefix: x.label, length: 256, digest: leaf(&x.label, &x.commitment, x.epoch) });
+            self.unchanged.push(Item { prefix: x.label, length: 256, digest: *digest });
         }
     }
 

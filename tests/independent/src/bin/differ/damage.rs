@@ -1,7 +1,11 @@
 //! What can be done to any lookup or history proof that was good before.
 
+use independent::strings;
+
+use crate::call::{CHECK_LOOKUP, PROGRAM};
 use crate::case::{Cases, Want};
 use crate::forge::{another_node, Path, Shows};
+use crate::liar::name as name_within;
 use crate::rng::Rng;
 
 /// A head, a name and a proof, for `call`.
@@ -19,7 +23,6 @@ impl Asking {
 
     /// The case, and for lookups now and then one of the program with the same bytes.
     pub fn put(self, aim: &'static str, want: Want, rng: &mut Rng, out: &mut Cases) {
-        use crate::call::{CHECK_LOOKUP, PROGRAM};
         if self.call == CHECK_LOOKUP && self.head.len() == 32 && self.name.len() < 256 && rng.once_in(3) {
             let input = [&self.head[..], &[self.name.len() as u8], &self.name, &self.proof].concat();
             out.put(PROGRAM, vec![input], aim, want);
@@ -41,7 +44,7 @@ pub fn bad_name(rng: &mut Rng) -> Vec<u8> {
     }
 }
 
-/// One damage to a proof that is accepted, of the kind that the call is made to refuse with a certain number.
+/// One damage to a proof that is accepted.
 pub fn put_damaged(call: usize, name: &[u8], shows: &Shows, rng: &mut Rng, out: &mut Cases) {
     match rng.below(6) {
         0 => input(call, name, shows, rng, out),
@@ -141,10 +144,10 @@ fn bytes(call: usize, name: &[u8], shows: &Shows, rng: &mut Rng, out: &mut Cases
         asking.proof.splice(at..at, part);
     }
     if rng.once_in(8) {
-        asking.name = crate::liar::name(rng);
+        asking.name = name_within(rng);
     }
     if rng.below(8) > 0 {
-        asking.head = independent::strings::head(asking.proof[6..106].try_into().unwrap()).to_vec();
+        asking.head = strings::head(asking.proof[6..106].try_into().unwrap()).to_vec();
     }
     asking.put("any bytes changed", Want::Any, rng, out)
 }

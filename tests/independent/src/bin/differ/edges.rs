@@ -52,7 +52,7 @@ fn put_versions(rng: &mut Rng, out: &mut Cases) {
         }
         let want = if count == 1023 { Want::Accept } else { want };
         for at in [1023, 512, 511] {
-            let room = number(1_500_000);
+            let room = number(1_000_000);
             out.put(WRITE_LOOKUP, [&tables[..], &[name.to_vec(), number(at), room.clone()]].concat(), aim, want);
             out.put(WRITE_HISTORY, [&tables[..], &[name.to_vec(), number(at), room.clone()]].concat(), aim, want);
             out.put(WRITE_AUDIT, [&tables[..], &[number(at), room]].concat(), aim, want);
@@ -64,7 +64,7 @@ fn put_versions(rng: &mut Rng, out: &mut Cases) {
 }
 
 fn put_written(records: &[u8], heads: &[u8], state: State, name: &[u8], out: &mut Cases) {
-    let mut room = vec![0; 2_000_000];
+    let mut room = vec![0; 1_000_000];
     let head = |proof: &[u8]| independent::strings::head(proof[6..106].try_into().unwrap()).to_vec();
     for at in [1023, 512] {
         let length = independent::write_history(records, heads, state, name, at, &mut room).expect("room");

@@ -7,12 +7,8 @@ use independent::tree::{root_of, Item, Nodes};
 
 use crate::rng::Rng;
 
-pub const FRONT: [u8; 6] = [b'V', b'K', b'D', 0, 1, 0];
-
 pub fn front(kind: u8) -> [u8; 6] {
-    let mut front = FRONT;
-    front[5] = kind;
-    front
+    [b'V', b'K', b'D', 0, 1, kind]
 }
 
 #[derive(Clone)]
@@ -32,7 +28,7 @@ impl Opening {
         strings::head(&self.bytes())
     }
 
-    /// Changes one of its four fields, the epoch only if told so.
+    /// Changes one of its digests: the number of a history's paths hangs on the epoch.
     pub fn spoil(&mut self, rng: &mut Rng) {
         match rng.below(3) {
             0 => rng.flip(&mut self.previous),
@@ -73,7 +69,7 @@ impl Path {
         out.extend(&self.end);
     }
 
-    /// The root that it gives for a label, if its kind and lengths allow one.
+    /// The root that it gives for a label.
     pub fn root(&self, label: &Digest) -> Digest {
         let digest = |at: usize| -> &Digest { self.end[at..at + 32].try_into().unwrap() };
         let number = |at: usize| u32::from_be_bytes(self.end[at..at + 4].try_into().unwrap());

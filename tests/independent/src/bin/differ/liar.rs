@@ -73,7 +73,9 @@ impl Liar {
                     _ => rng.digest(),
                 };
                 let leaf = Leaf { label, commitment: rng.digest(), epoch: rng.next() as u32 };
-                self.tree(which).push(leaf);
+                if self.tree(which).iter().all(|other| other.label != label) {
+                    self.tree(which).push(leaf);
+                }
             }
         }
     }

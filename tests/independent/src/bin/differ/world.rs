@@ -32,6 +32,14 @@ pub fn update(name: &[u8], rng: &mut Rng) -> Vec<u8> {
     update
 }
 
+/// No bytes, or more than there is room for.
+fn spoil_length(field: &mut [u8], rng: &mut Rng) {
+    match rng.below(2) {
+        0 => field.fill(0),
+        _ => field[0] = *rng.pick(&[0, 65, 255]),
+    }
+}
+
 fn spoil_update(update: &mut Vec<u8>, rng: &mut Rng) -> &'static str {
     let (name, key) = (update[0] as usize, update[65] as usize);
     match rng.below(6) {
@@ -40,7 +48,7 @@ fn spoil_update(update: &mut Vec<u8>, rng: &mut Rng) -> &'static str {
             "a torn batch"
         }
         1 => {
-            update[0] = *rng.pick(&[0, 65, 255]);
+            spoil_length(&mut update[..65], rng);
             "an update's name length"
         }
         2 if name < 64 => {
@@ -48,7 +56,7 @@ fn spoil_update(update: &mut Vec<u8>, rng: &mut Rng) -> &'static str {
             "an update's name filling"
         }
         3 => {
-            update[65] = *rng.pick(&[0, 65, 255]);
+            spoil_length(&mut update[65..130], rng);
             "an update's key length"
         }
         4 if key < 64 => {
@@ -183,7 +191,7 @@ impl World {
         out.put(WRITE_AUDIT, self.writing(WRITE_AUDIT, &[], 0, 1000), "an audit of new epoch 0", INPUT)
     }
 
-    /// A request to one of the four calls with tables, of this directory; a call that is not made for it is refused for `want`.
+    /// A request to one of the four calls with tables.
     fn put_any(&self, aim: &'static str, want: Want, rng: &mut Rng, out: &mut Cases) {
         let call = *rng.pick(&[PUBLISH, WRITE_LOOKUP, WRITE_HISTORY, WRITE_AUDIT]);
         if call == PUBLISH {
@@ -265,7 +273,7 @@ impl World {
         let record = &mut self.records[i * RECORD..(i + 1) * RECORD];
         match rng.below(5) {
             0 => {
-                record[0] = *rng.pick(&[0, 65, 255]);
+                spoil_length(&mut record[..65], rng);
                 "a name length out of bounds"
             }
             1 if name < 64 => {
@@ -273,7 +281,7 @@ impl World {
                 "a name's filling"
             }
             2 => {
-                record[71] = *rng.pick(&[0, 65, 255]);
+                spoil_length(&mut record[71..136], rng);
                 "a key length out of bounds"
             }
             3 if key < 64 => {
