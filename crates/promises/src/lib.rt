@@ -1,1 +1,7 @@
-// Demands 2 and 3, end to end.
+// Demands 2 and 3 end to end, as code: functions that call the public entries one behind the other. What they promise follows from the
+// entries' contracts alone and the theorems of proofs/, which hold for any labelling.
+mod demand3;
+mod numbers;
+
+pub use demand3::arrow_after;
+pub use demand3::arrow_now;

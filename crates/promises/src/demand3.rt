@@ -1,0 +1,41 @@
+// "Suppose an owner's history is accepted at the head of epoch T, each audit step from the head of epoch t up to that head is accepted,
+// and anyone's lookup of the same name is accepted at the head of epoch t": whether that is so, for no step and for one.
+use crate::numbers::audit_number;
+use crate::numbers::history_number;
+use crate::numbers::lookup_number;
+use audit::check_audit;
+use history::check_history;
+use lookup::check_lookup;
+ghost use mathlib.Core.List.{[], _∷_};
+ghost use Rattle.paper.specs.Labelling.{plain};
+ghost use Rattle.promises.specs.Pointed.{Pointed};
+
+// "one head where they are equal"
+pub fn arrow_now(head: &[u8], name: &[u8], lookup: &[u8], history: &[u8]) -> bool
+    ensures { λ r. ⌜ Pointed plain (now (head .entry)) (now (name .entry)) (now (lookup .entry)) [] (now (history .entry)) r ⌝ }
+{
+    if lookup_number(check_lookup(head, name, lookup)) != 0 {
+        return false;
+    }
+    history_number(check_history(head, name, history)) == 0
+}
+
+// One step on: the lookup at the head that was, the history at the next.
+pub fn arrow_after(
+    head: &[u8],
+    next: &[u8],
+    name: &[u8],
+    lookup: &[u8],
+    step: &[u8],
+    history: &[u8],
+) -> bool
+    ensures { λ r. ⌜ Pointed plain (now (head .entry)) (now (name .entry)) (now (lookup .entry)) (record { head = now (next .entry); proof = now (step .entry) } ∷ []) (now (history .entry)) r ⌝ }
+{
+    if lookup_number(check_lookup(head, name, lookup)) != 0 {
+        return false;
+    }
+    if audit_number(check_audit(head, next, step)) != 0 {
+        return false;
+    }
+    history_number(check_history(next, name, history)) == 0
+}
