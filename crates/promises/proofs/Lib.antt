@@ -4,5 +4,5 @@ pub mod Writers
 pub mod Lookups
 pub mod Histories
 pub mod Audits
-pub mod Further
+pub mod Publishings
 pub mod Pointing

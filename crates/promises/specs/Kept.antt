@@ -1,14 +1,18 @@
--- A proof that is written and then checked: the writer's refusal, or else the directory's own answer, and what the writer left.
+-- Demand 2 as chains of calls: a directory that comes about, and a proof that is written and then checked, which gives the writer's refusal or
+-- else the directory's own answer.
 use mathlib.Core.Path.{_≡_}
+use mathlib.Core.List.{[], _∷_}
 use Prim.Native.Nat.{ℕ}
-use lib.ListN.{take}
+use Rattle.paper.specs.Numbers.{INPUT}
 use Rattle.paper.specs.Bytes.{Bytes}
 use Rattle.paper.specs.Labelling.{Labelling}
-use Rattle.paper.specs.Lookup.{acceptedKey}
-use Rattle.paper.specs.Publish.{Published}
+use Rattle.paper.specs.Verdict.{test, verdict}
+use Rattle.paper.specs.Table.{recordsWithin}
+use Rattle.paper.specs.Publish.{Started, start, Published, publish}
 use Rattle.paper.specs.Write.{writeLookup, writeHistory, writeAudit}
 use Rattle.paper.specs.Left.{Left}
 use Rattle.paper.specs.declared.State.{State}
+use Rattle.paper.specs.declared.StartAnswer.the-variants as S
 use Rattle.paper.specs.declared.PublishAnswer.{PublishAnswer}
 use Rattle.paper.specs.declared.PublishAnswer.the-variants as P
 use Rattle.paper.specs.declared.WriteAnswer.{WriteAnswer}
@@ -21,10 +25,28 @@ use Rattle.paper.specs.declared.AuditAnswer.{AuditAnswer}
 use Rattle.paper.specs.declared.AuditAnswer.the-variants as A
 use Rattle.promises.specs.Own.{directory, lookupAnswer, historyAnswer, auditAnswer}
 
+-- ---- a directory comes about
+
+-- starting, in a record table within its bounds
+unfoldable pub begun : Labelling → Bytes → Bytes → Started
+begun lab records heads = verdict (λ n. record { answer = S.Refused n; heads = heads }) (start lab heads) (test INPUT (recordsWithin records) ∷ [])
+
+-- what starting leaves is a directory
+pub record Begun (lab : Labelling) (records heads : Bytes) (x : Started) : Type 0 where
+  pub is : x ≡ begun lab records heads
+  pub left : (s : State) → x .answer ≡ S.Started s → Left lab records (x .heads) s
+
 -- the state after publishing: the new one, or "the state as given"
 abbrev pub stateAfter : PublishAnswer → State
 stateAfter (P.Published s) = s
 stateAfter (P.Refused n s) = s
+
+-- and so is what publishing leaves, whether it succeeds or refuses
+pub record Further (lab : Labelling) (records heads : Bytes) (state : State) (batch : Bytes) (x : Published) : Type 0 where
+  pub is : x ≡ publish lab records heads state batch
+  pub left : Left lab (x .records) (x .heads) (stateAfter (x .answer))
+
+-- ---- a proof is written and checked
 
 -- the writer's refusal, or else this answer
 abbrev pub elseLookup : WriteAnswer → LookupAnswer → LookupAnswer

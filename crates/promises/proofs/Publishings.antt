@@ -1,28 +1,38 @@
 -- Starting leaves a directory, and so does each publishing from one, whether it succeeds or refuses. Assumes nothing.
 use mathlib.Core.Path.{_≡_, sym, ap, _∙_, subst}
 use mathlib.Core.Logic.{⊎-elim}
-use mathlib.Core.Bool.{true}
+use mathlib.Core.Bool.{true, false}
 use Prim.Native.Nat.{ℕ, suc, _+_, _*_, _≤_}
 use native.Mathlib.Omega.{arith}
 use lib.ListN.{length}
-use Rattle.paper.specs.Numbers.{wide}
+use Rattle.paper.specs.Numbers.{wide, INPUT}
 use Rattle.paper.specs.Bytes.{Bytes, Bytewise}
 use Rattle.paper.specs.Labelling.{Labelling}
+use Rattle.paper.specs.Verdict.{verdict}
 use Rattle.paper.specs.Table.{recordsWithin}
 use Rattle.paper.specs.Publish.{Started, start, Published, publish}
 use Rattle.paper.specs.Left.{Left, started, published}
 use Rattle.paper.specs.declared.State.{State}
 use Rattle.paper.specs.declared.StartAnswer.the-variants as S
 use Rattle.paper.proofs.Success.{outcome}
-use Rattle.promises.specs.Kept.{stateAfter}
+use Rattle.promises.specs.Kept.{begun, Begun, stateAfter, Further}
 use Rattle.promises.proofs.Standing.{left-stands}
 
-pub left-started : (lab : Labelling) (records heads : Bytes) → Bytewise records → Bytewise heads → recordsWithin records ≡ true
+left-started : (lab : Labelling) (records heads : Bytes) → Bytewise records → Bytewise heads → recordsWithin records ≡ true
     → (x : Started) → x ≡ start lab heads → (s : State) → x .answer ≡ S.Started s → Left lab records (x .heads) s
 left-started lab records heads rb hb w x e s q =
     subst (λ h. Left lab records h s) (sym (ap (λ y. y .heads) e)) (started records heads rb hb w (sym (ap (λ y. y .answer) e) ∙ q))
 
-pub left-further : (lab : Labelling) {records heads : Bytes} {state : State} → Left lab records heads state → (batch : Bytes) → Bytewise batch
+-- a record table out of bounds is refused
+pub unbegun : (lab : Labelling) (records heads : Bytes) → recordsWithin records ≡ false → Begun lab records heads (record { answer = S.Refused INPUT; heads = heads })
+unfolding begun verdict
+unbegun lab records heads w = record { is = sym (rw w); left = λ s e. let z : _≡_ {A = ℕ} 0 1 = cc in absurd (omega arith) }
+
+pub begun-left : (lab : Labelling) (records heads : Bytes) → Bytewise records → Bytewise heads → recordsWithin records ≡ true → (x : Started) → x ≡ start lab heads → Begun lab records heads x
+unfolding begun verdict
+begun-left lab records heads rb hb w x e = record { is = e ∙ sym (rw w); left = left-started lab records heads rb hb w x e }
+
+left-further : (lab : Labelling) {records heads : Bytes} {state : State} → Left lab records heads state → (batch : Bytes) → Bytewise batch
     → (x : Published) → x ≡ publish lab records heads state batch → Left lab (x .records) (x .heads) (stateAfter (x .answer))
 left-further lab {records} {heads} {state} left batch b x e =
     subst (λ y. Left lab (y .records) (y .heads) (stateAfter (y .answer))) (sym e) (⊎-elim
@@ -31,6 +41,10 @@ left-further lab {records} {heads} {state} left batch b x e =
     subst (λ a. Left lab (publish lab records heads state batch .records) (publish lab records heads state batch .heads) (stateAfter a)) (sym q) (published left batch b q))
     (λ (n, q). subst (λ y. Left lab (y .records) (y .heads) (stateAfter (y .answer))) (sym q) left)
     (outcome lab records heads state batch))
+
+pub further-left : (lab : Labelling) {records heads : Bytes} {state : State} → Left lab records heads state → (batch : Bytes) → Bytewise batch
+    → (x : Published) → x ≡ publish lab records heads state batch → Further lab records heads state batch x
+further-left lab left batch b x e = record { is = e; left = left-further lab left batch b x e }
 
 -- the head of an epoch that is reached lies in the table
 pub head-lies : (lab : Labelling) {records heads : Bytes} {state : State} → Left lab records heads state → (t : ℕ) → t ≤ state .epoch → t * wide + wide ≤ length heads
