@@ -5,4 +5,5 @@ pub mod Lookups
 pub mod Histories
 pub mod Audits
 pub mod Publishings
+pub mod Chains
 pub mod Pointing

@@ -1,4 +1,4 @@
--- `promises::demand3::arrow_after`: the lookup at the head that was, the step, the history at the next head.
+-- `promises::arrow::arrow_after`: the lookup at the head that was, the step, the history at the next head.
 use borrow.Author.Needs.{needs}
 use borrow.Author.Tests.{eq-eqb, ne-eqb}
 use mathlib.Core.Path.{_≡_, sym, ap, _∙_}
@@ -14,8 +14,8 @@ use Rattle.paper.proofs.Arrow.{plain-sized}
 use Rattle.words.proofs.Slices.{bytewise}
 use Rattle.promises.specs.Pointed.{Pointed, allAccepted, stepsAccepted}
 use Rattle.promises.proofs.Pointing.{pointed, unlooked, unaudited, reached}
-use Rattle.promises.proofs.demand3.arrow_after.Statement.{statement}
-use Rattle.promises.proofs.demand3.arrow_after.Tie as tie
+use Rattle.promises.proofs.arrow.arrow_after.Statement.{statement}
+use Rattle.promises.proofs.arrow.arrow_after.Tie as tie
 
 -- the one step
 abbrev steps : tie.After-lookup-number → List AuditStep

@@ -1,10 +1,10 @@
--- `promises::demand2::further`: what publishing leaves of a directory is one.
+-- `promises::left::further`: what publishing leaves of a directory is one.
 use borrow.Author.Needs.{needs}
 use Rattle.paper.specs.Labelling.{plain}
 use Rattle.words.proofs.Slices.{bytewise}
 use Rattle.promises.proofs.Publishings.{further-left}
-use Rattle.promises.proofs.demand2.further.Statement.{statement}
-use Rattle.promises.proofs.demand2.further.Tie as tie
+use Rattle.promises.proofs.left.further.Statement.{statement}
+use Rattle.promises.proofs.left.further.Tie as tie
 
 returns : tie.Need-returns
 returns c =

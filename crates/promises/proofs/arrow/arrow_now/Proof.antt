@@ -1,4 +1,4 @@
--- `promises::demand3::arrow_now`: both checks at one head.
+-- `promises::arrow::arrow_now`: both checks at one head.
 use borrow.Author.Needs.{needs}
 use mathlib.Core.Path.{_≡_, refl, ap, _∙_}
 use mathlib.Core.List.{[]}
@@ -9,8 +9,8 @@ use Rattle.paper.specs.Answer.{lookupNumber, historyNumber}
 use Rattle.paper.proofs.Arrow.{plain-sized}
 use Rattle.words.proofs.Slices.{bytewise}
 use Rattle.promises.proofs.Pointing.{pointed, unlooked, reached}
-use Rattle.promises.proofs.demand3.arrow_now.Statement.{statement}
-use Rattle.promises.proofs.demand3.arrow_now.Tie as tie
+use Rattle.promises.proofs.arrow.arrow_now.Statement.{statement}
+use Rattle.promises.proofs.arrow.arrow_now.Tie as tie
 
 -- the lookup's number is the definition's
 looked : (c : tie.After-lookup-number) → let a = c .before .before .before .before .before .before .args in c .lookup-number .result ≡ lookupNumber (checkLookup plain (a .head .now) (a .name .now) (a .lookup .now))
