@@ -12,9 +12,11 @@ use Rattle.paper.specs.Lookup.{checkLookup, acceptedKey}
 use Rattle.paper.specs.History.{checkHistory}
 use Rattle.paper.specs.Audit.{checkAudit}
 use Rattle.paper.specs.Table.{headAt}
+use Rattle.paper.specs.Publish.{Published}
 use Rattle.paper.specs.Write.{Written, writeLookup, writeHistory, writeAudit}
 use Rattle.paper.specs.Left.{Left}
 use Rattle.paper.specs.declared.State.{State}
+use Rattle.paper.specs.declared.PublishAnswer.the-variants as P
 use Rattle.paper.specs.declared.WriteAnswer.the-variants as W
 use Rattle.paper.specs.declared.LookupAnswer.{LookupAnswer}
 use Rattle.paper.specs.declared.LookupAnswer.the-variants as L
@@ -22,7 +24,7 @@ use Rattle.paper.specs.declared.HistoryAnswer.{HistoryAnswer}
 use Rattle.paper.specs.declared.HistoryAnswer.the-variants as H
 use Rattle.paper.specs.declared.AuditAnswer.{AuditAnswer}
 use Rattle.paper.specs.declared.AuditAnswer.the-variants as A
-use Rattle.promises.specs.Kept.{Kept, unlessRefused, keptBy, lookupKept, keyKept, historyKept, auditKept}
+use Rattle.promises.specs.Kept.{Kept, unlessRefused, keptBy, lookupKept, keyKept, historyKept, auditKept, firstBy, first}
 use Rattle.promises.proofs.Standing.{left-stands}
 use Rattle.promises.proofs.Lookups.{lookup-wrote, lookup-kept, key-kept}
 use Rattle.promises.proofs.Histories.{history-wrote, history-kept}
@@ -120,3 +122,16 @@ module _ (lab : Labelling) (sized : Sized lab) {records heads : Bytes} {state : 
           checked A.Refused _ x _ e n s q a
           (c ∙ ap (λ d. checkAudit d d′ (take n (x .out))) h ∙ ap₂ (λ d b. checkAudit (headAt heads (t - 1)) d b) h′ (ap (λ y. take n (y .out)) e)
           ∙ audit-kept lab sized left t out n s (sym (ap (λ y. y .answer) e) ∙ q))
+
+-- ---- from nothing
+
+module _ {A : Type 0} (refuse : ℕ → A) (next : Bytes → Bytes → State → Kept A) (out : Bytes) (x w : Published) (e : x ≡ w) where
+  pub first-refused : (n : ℕ) (s : State) → x .answer ≡ P.Refused n s → record { answer = refuse n; records = x .records; heads = x .heads; out = out } ≡ first refuse next out w
+  first-refused n s q = ap (firstBy refuse next out (x .records) (x .heads)) (sym q) ∙ ap (first refuse next out) e
+
+  pub first-kept : (s : State) → x .answer ≡ P.Published s → (k : Kept A) → k ≡ next (x .records) (x .heads) s
+      → record { answer = k .answer; records = x .records; heads = x .heads; out = k .out } ≡ first refuse next out w
+  first-kept s q k h =
+      let a : record { answer = k .answer; records = x .records; heads = x .heads; out = k .out } ≡ firstBy refuse next out (x .records) (x .heads) (P.Published s) =
+      λ i. record { answer = h i .answer; records = x .records; heads = x .heads; out = h i .out } in
+      a ∙ ap (firstBy refuse next out (x .records) (x .heads)) (sym q) ∙ ap (first refuse next out) e

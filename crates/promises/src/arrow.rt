@@ -20,22 +20,22 @@ pub fn arrow_now(head: &[u8], name: &[u8], lookup: &[u8], history: &[u8]) -> boo
     history_number(check_history(head, name, history)) == 0
 }
 
-// One step on: the lookup at the head that was, the history at the next.
+// One step on: the lookup at the head before it, the history at the head after it.
 pub fn arrow_after(
-    head: &[u8],
-    next: &[u8],
+    before: &[u8],
+    after: &[u8],
     name: &[u8],
     lookup: &[u8],
     step: &[u8],
     history: &[u8],
 ) -> bool
-    ensures { λ r. ⌜ Pointed plain (now (head .entry)) (now (name .entry)) (now (lookup .entry)) (record { head = now (next .entry); proof = now (step .entry) } ∷ []) (now (history .entry)) r ⌝ }
+    ensures { λ r. ⌜ Pointed plain (now (before .entry)) (now (name .entry)) (now (lookup .entry)) (record { head = now (after .entry); proof = now (step .entry) } ∷ []) (now (history .entry)) r ⌝ }
 {
-    if lookup_number(check_lookup(head, name, lookup)) != 0 {
+    if lookup_number(check_lookup(before, name, lookup)) != 0 {
         return false;
     }
-    if audit_number(check_audit(head, next, step)) != 0 {
+    if audit_number(check_audit(before, after, step)) != 0 {
         return false;
     }
-    history_number(check_history(next, name, history)) == 0
+    history_number(check_history(after, name, history)) == 0
 }

@@ -47,7 +47,8 @@ pub fn lookup_kept(
     match write_lookup(records, heads, state, name, epoch, out) {
         WriteAnswer::Refused { number, state: _ } => LookupAnswer::Refused(number),
         WriteAnswer::Written { length, state: _ } => {
-            check_lookup(head_at(heads, epoch), name, &out[..length])
+            let head = head_at(heads, epoch);
+            check_lookup(head, name, &out[..length])
         }
     }
 }
@@ -70,10 +71,10 @@ pub fn key_kept(
             number: _,
             state: _,
         } => false,
-        WriteAnswer::Written { length, state: _ } => same(
-            accepted_key(head_at(heads, epoch), name, &out[..length]),
-            key,
-        ),
+        WriteAnswer::Written { length, state: _ } => {
+            let head = head_at(heads, epoch);
+            same(accepted_key(head, name, &out[..length]), key)
+        }
     }
 }
 
@@ -92,7 +93,8 @@ pub fn history_kept(
     match write_history(records, heads, state, name, epoch, out) {
         WriteAnswer::Refused { number, state: _ } => HistoryAnswer::Refused(number),
         WriteAnswer::Written { length, state: _ } => {
-            check_history(head_at(heads, epoch), name, &out[..length])
+            let head = head_at(heads, epoch);
+            check_history(head, name, &out[..length])
         }
     }
 }
@@ -110,10 +112,10 @@ pub fn audit_kept(
 {
     match write_audit(records, heads, state, epoch, out) {
         WriteAnswer::Refused { number, state: _ } => AuditAnswer::Refused(number),
-        WriteAnswer::Written { length, state: _ } => check_audit(
-            head_at(heads, epoch - 1),
-            head_at(heads, epoch),
-            &out[..length],
-        ),
+        WriteAnswer::Written { length, state: _ } => {
+            let before = head_at(heads, epoch - 1);
+            let after = head_at(heads, epoch);
+            check_audit(before, after, &out[..length])
+        }
     }
 }

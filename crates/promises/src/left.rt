@@ -1,22 +1,10 @@
-// "every lookup, history and audit proof written from tables and state that publishing left is accepted at its epoch's head, with the
-// directory's own answer": what is written here is put to the checker at once.
-use audit::check_audit;
+// "tables and state that publishing left": a directory begins, and goes on.
 use bounds::records_within;
-use history::check_history;
-use lookup::check_lookup;
-use paper::AuditAnswer;
-use paper::HistoryAnswer;
-use paper::LookupAnswer;
 use paper::PublishAnswer;
 use paper::StartAnswer;
 use paper::State;
-use paper::WriteAnswer;
 use publish::publish;
 use start::start;
-use write_audit::write_audit;
-use write_proof::write_history;
-use write_proof::write_lookup;
-ghost use mathlib.Core.Path.{_≡_};
 ghost use Rattle.paper.specs.Labelling.{plain};
 ghost use Rattle.paper.specs.Left.{Left};
 ghost use Rattle.promises.specs.Kept as K;
