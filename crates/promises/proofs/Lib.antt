@@ -1,4 +1,4 @@
--- Demands 2 and 3, over the labelling and the definitions.
+-- Demand 2, the honest way, over the labelling and the definitions.
 pub mod Standing
 pub mod Writers
 pub mod Lookups
@@ -6,4 +6,3 @@ pub mod Histories
 pub mod Audits
 pub mod Publishings
 pub mod Chains
-pub mod Pointing

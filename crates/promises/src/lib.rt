@@ -1,13 +1,9 @@
-// Demands 2 and 3 end to end, as code: functions that call the public entries one behind the other. What they promise follows from the
-// entries' contracts alone and the theorems of proofs/, which hold for any labelling.
-mod arrow;
+// Demand 2 end to end, as code: functions that call the public entries one behind the other. What they promise follows from the entries'
+// contracts alone and the theorems of proofs/, which hold for any labelling.
 mod first;
 mod kept;
 mod left;
-mod numbers;
 
-pub use arrow::arrow_after;
-pub use arrow::arrow_now;
 pub use first::first_audit;
 pub use first::first_history;
 pub use first::first_lookup;

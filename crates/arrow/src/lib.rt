@@ -1,14 +1,17 @@
-// "Suppose an owner's history is accepted at the head of epoch T, each audit step from the head of epoch t up to that head is accepted,
-// and anyone's lookup of the same name is accepted at the head of epoch t": whether that is so, for no step and for one.
-use crate::numbers::audit_number;
-use crate::numbers::history_number;
-use crate::numbers::lookup_number;
+// Demand 3 end to end, as code: "Suppose an owner's history is accepted at the head of epoch T, each audit step from the head of epoch t up
+// to that head is accepted, and anyone's lookup of the same name is accepted at the head of epoch t": whether that is so, for no step and
+// for one. What a true answer says follows from the three checkers' contracts alone and the theorem of proofs/, which has any run of steps.
+mod numbers;
+
 use audit::check_audit;
 use history::check_history;
 use lookup::check_lookup;
+use numbers::audit_number;
+use numbers::history_number;
+use numbers::lookup_number;
 ghost use mathlib.Core.List.{[], _∷_};
 ghost use Rattle.paper.specs.Labelling.{plain};
-ghost use Rattle.promises.specs.Pointed.{Pointed};
+ghost use Rattle.arrow.specs.Pointed.{Pointed};
 
 // "one head where they are equal"
 pub fn arrow_now(head: &[u8], name: &[u8], lookup: &[u8], history: &[u8]) -> bool

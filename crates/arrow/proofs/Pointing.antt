@@ -16,7 +16,7 @@ use Rattle.paper.specs.Answer.{lookupNumber, historyNumber, auditNumber}
 use Rattle.paper.specs.Arrow.{AuditStep, Audited, hashed, Collision, Agrees}
 use Rattle.paper.proofs.Lists.{and-left, and-right}
 use Rattle.paper.proofs.Arrow.{demand-3}
-use Rattle.promises.specs.Pointed.{lastHead, stepsAccepted, allAccepted, Pointed}
+use Rattle.arrow.specs.Pointed.{lastHead, stepsAccepted, allAccepted, Pointed}
 
 audited : (d : Bytes) (steps : List AuditStep) → stepsAccepted d steps ≡ true → Audited d steps (lastHead d steps)
 audited d [] e = refl

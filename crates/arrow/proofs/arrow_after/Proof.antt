@@ -1,4 +1,4 @@
--- `promises::arrow::arrow_after`: the lookup at the head before the step, the step, the history at the head after it.
+-- `arrow::arrow_after`: the lookup at the head before the step, the step, the history at the head after it.
 use borrow.Author.Needs.{needs}
 use borrow.Author.Tests.{eq-eqb, ne-eqb}
 use mathlib.Core.Path.{_≡_, sym, ap, _∙_}
@@ -12,10 +12,10 @@ use Rattle.paper.specs.Answer.{lookupNumber, historyNumber, auditNumber}
 use Rattle.paper.specs.Arrow.{AuditStep}
 use Rattle.paper.proofs.Arrow.{plain-sized}
 use Rattle.words.proofs.Slices.{bytewise}
-use Rattle.promises.specs.Pointed.{Pointed, allAccepted, stepsAccepted}
-use Rattle.promises.proofs.Pointing.{pointed, unlooked, unaudited, reached}
-use Rattle.promises.proofs.arrow.arrow_after.Statement.{statement}
-use Rattle.promises.proofs.arrow.arrow_after.Tie as tie
+use Rattle.arrow.specs.Pointed.{Pointed, allAccepted, stepsAccepted}
+use Rattle.arrow.proofs.Pointing.{pointed, unlooked, unaudited, reached}
+use Rattle.arrow.proofs.arrow_after.Statement.{statement}
+use Rattle.arrow.proofs.arrow_after.Tie as tie
 
 -- the one step
 abbrev steps : tie.After-lookup-number → List AuditStep

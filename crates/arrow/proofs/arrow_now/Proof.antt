@@ -1,4 +1,4 @@
--- `promises::arrow::arrow_now`: both checks at one head.
+-- `arrow::arrow_now`: both checks at one head.
 use borrow.Author.Needs.{needs}
 use mathlib.Core.Path.{_≡_, refl, ap, _∙_}
 use mathlib.Core.List.{[]}
@@ -8,9 +8,9 @@ use Rattle.paper.specs.Lookup.{checkLookup}
 use Rattle.paper.specs.Answer.{lookupNumber, historyNumber}
 use Rattle.paper.proofs.Arrow.{plain-sized}
 use Rattle.words.proofs.Slices.{bytewise}
-use Rattle.promises.proofs.Pointing.{pointed, unlooked, reached}
-use Rattle.promises.proofs.arrow.arrow_now.Statement.{statement}
-use Rattle.promises.proofs.arrow.arrow_now.Tie as tie
+use Rattle.arrow.proofs.Pointing.{pointed, unlooked, reached}
+use Rattle.arrow.proofs.arrow_now.Statement.{statement}
+use Rattle.arrow.proofs.arrow_now.Tie as tie
 
 -- the lookup's number is the definition's
 looked : (c : tie.After-lookup-number) → let a = c .before .before .before .before .before .before .args in c .lookup-number .result ≡ lookupNumber (checkLookup plain (a .head .now) (a .name .now) (a .lookup .now))
