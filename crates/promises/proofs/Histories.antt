@@ -5,7 +5,6 @@ use mathlib.Core.Bool.{true, not, _||_}
 use mathlib.Core.List.{List, [], _∷_, map}
 use Prim.Native.Nat.{ℕ, zero, suc, _+_, _-_, _<_, _≤_}
 use native.Mathlib.Omega.{arith}
-use native.Mathlib.Nat.{add-suc}
 use lib.ListN.{length, take, getD, length-map}
 use Rattle.fips.specs.Sha256.{sha256}
 use Rattle.paper.specs.Lists.{_∈_, All, every, upFrom}
@@ -17,12 +16,12 @@ use Rattle.paper.specs.Layout.{got, parse}
 use Rattle.paper.specs.Path.{Path, way, epochOf}
 use Rattle.paper.specs.Tree.{root}
 use Rattle.paper.specs.Fields.{isName}
-use Rattle.paper.specs.Shows.{inAll, Asked, missing, Item, itemField, Proof, labelAt, epochAt}
+use Rattle.paper.specs.Shows.{inAll, Asked, missing, itemField, Proof, labelAt, epochAt}
 use Rattle.paper.specs.History.{historyAsked, historyField, historyStrings, checkHistory}
 use Rattle.paper.specs.Table.{Record, headAt, allAt, holds}
 use Rattle.paper.specs.Write.{itemOf, versionsBy, leavesAt, unclashed, historyProof, writeHistory}
 use Rattle.paper.specs.Left.{Left}
-use Rattle.paper.specs.Arrow.{Told, toldAt, toldBy, told}
+use Rattle.paper.specs.Arrow.{toldAt, toldBy, told}
 use Rattle.paper.specs.declared.State.{State}
 use Rattle.paper.specs.declared.WriteAnswer.the-variants as W
 use Rattle.paper.specs.declared.HistoryAnswer.the-variants as H

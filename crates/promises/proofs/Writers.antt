@@ -1,8 +1,8 @@
 -- A writer over what publishing left: where it answers, and what its answer says. Assumes nothing.
-use mathlib.Core.Path.{_≡_, refl, sym, ap, _∙_}
+use mathlib.Core.Path.{_≡_, sym, ap, _∙_}
 use mathlib.Core.Logic.{⊎-elim}
 use mathlib.Core.Bool.{Bool, true, _&&_}
-use mathlib.Core.List.{List, [], _∷_}
+use mathlib.Core.List.{List, []}
 use Prim.Native.Nat.{ℕ, suc, _+_, _*_, _≤_}
 use native.Mathlib.Omega.{arith}
 use lib.Dec.{leb}
@@ -52,7 +52,7 @@ module _ (lab : Labelling) (records heads : Bytes) (state : State) (rs : List Re
     pub answered : (n : ℕ) (s : State) → left .answer ≡ W.Written n s → Wrote n
     unfolding writeWith pasted
     answered n s e = ⊎-elim
-        (λ (g, q). ⊎-elim (λ (k, v). done (g .0) k (q ∙ read ∙ v)) (λ (m, _, v). absurd (no m (q ∙ read ∙ v))) (verdict-cases (unwritten lab records heads state out) wrote _))
+        (λ (g, q). ⊎-elim (λ (k, v). done (g .0) (k .1 .0) (k .1 .1 .0) (k .1 .1 .1 .0) (q ∙ read ∙ v)) (λ (m, _, v). absurd (no m (q ∙ read ∙ v))) (verdict-cases (unwritten lab records heads state out) wrote _))
         (λ (m, _, q). absurd (no m q))
         (verdict-cases (unwritten lab records heads state out) (writeRead lab records heads state out t clear proof (counted records (state .count))) _)
       where
@@ -61,14 +61,14 @@ module _ (lab : Labelling) (records heads : Bytes) (state : State) (rs : List Re
             let a : W.Refused m state ≡ W.Written n s = ap (λ w. w .answer) (sym q) ∙ e in
             let z : _≡_ {A = ℕ} 0 1 = cc in omega arith
 
-        done : (recordsWithin records && (headsWithin heads && input)) ≡ true → ((headLies heads (state .epoch) && inShape lab (state .epoch) [] rs) ≡ true) × ((leb t (state .epoch) ≡ true) × ((clear rs ≡ true) × ((leb (length (proof rs)) (length out) ≡ true) × Unit {0}))) → left ≡ wrote → Wrote n
-        done g k q =
+        done : (recordsWithin records && (headsWithin heads && input)) ≡ true → leb t (state .epoch) ≡ true → clear rs ≡ true → leb (length (proof rs)) (length out) ≡ true → left ≡ wrote → Wrote n
+        done g k c l q =
             let a : W.Written (length (proof rs)) state ≡ W.Written n s = ap (λ w. w .answer) (sym q) ∙ e in
-            let l : length (proof rs) ≡ n = cc in
+            let m : length (proof rs) ≡ n = cc in
             record {
               input-good = and-right (headsWithin heads) _ (and-right (recordsWithin records) _ g);
-              reached = leb-true t (state .epoch) (k .1 .0);
-              unclashed = k .1 .1 .0;
-              room = omega (arith, leb-true (length (proof rs)) (length out) (k .1 .1 .1 .0));
-              bytes = ap (λ w. take n (w .out)) q ∙ take-at (proof rs) (drop (0 + length (proof rs)) out) n l;
+              reached = leb-true t (state .epoch) k;
+              unclashed = c;
+              room = omega (arith, leb-true (length (proof rs)) (length out) l);
+              bytes = ap (λ w. take n (w .out)) q ∙ take-at (proof rs) (drop (0 + length (proof rs)) out) n m;
             }

@@ -12,7 +12,7 @@ use Rattle.paper.specs.Answer.{lookupNumber, historyNumber, auditNumber}
 use Rattle.paper.specs.Arrow.{AuditStep}
 use Rattle.paper.proofs.Arrow.{plain-sized}
 use Rattle.words.proofs.Slices.{bytewise}
-use Rattle.arrow.specs.Pointed.{Pointed, allAccepted, stepsAccepted}
+use Rattle.arrow.specs.Pointed.{Pointed, allAccepted}
 use Rattle.arrow.proofs.Pointing.{pointed, unlooked, unaudited, reached}
 use Rattle.arrow.proofs.arrow_after.Statement.{statement}
 use Rattle.arrow.proofs.arrow_after.Tie as tie

@@ -2,7 +2,6 @@
 use borrow.Author.Needs.{needs}
 use mathlib.Core.Path.{_≡_, refl, ap, _∙_}
 use mathlib.Core.List.{[]}
-use Rattle.paper.specs.Bytes.{Bytewise}
 use Rattle.paper.specs.Labelling.{plain}
 use Rattle.paper.specs.Lookup.{checkLookup}
 use Rattle.paper.specs.Answer.{lookupNumber, historyNumber}

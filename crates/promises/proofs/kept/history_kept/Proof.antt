@@ -1,7 +1,7 @@
 -- `promises::kept::history_kept`: the bounds of both parts, and the two ways.
 use borrow.Author.Needs.{needs}
 use native.Mathlib.Omega.{arith}
-use mathlib.Core.Path.{_≡_, sym}
+use mathlib.Core.Path.{sym}
 use lib.ListN.{length}
 use lib.Seq.{length-take-le}
 use Rattle.paper.specs.Labelling.{plain}
