@@ -27,7 +27,8 @@ pub fn further(records: &mut [u8], heads: &mut [u8], state: State, batch: &[u8])
     publish(records, heads, state, batch)
 }
 
-// Starts a directory and publishes a first batch. Where the start refuses there is no state but that of no records.
+// Starts a directory and publishes a first batch. Where the start refuses there is no state but that of no records; where publishing refuses,
+// the directory that was started stands.
 pub fn opened(records: &mut [u8], heads: &mut [u8], batch: &[u8]) -> PublishAnswer
     ensures { λ r. ⌜ K.Opens plain (now (records .entry)) (now (heads .entry)) (now (batch .entry)) (record { answer = r; records = now (records .exit); heads = now (heads .exit) }) ⌝ }
 {

@@ -2,12 +2,12 @@
 use borrow.Author.Needs.{needs}
 use native.Mathlib.Omega.{arith}
 use mathlib.Core.Path.{sym}
+use Prim.Native.Nat.{_+_, _*_, _≤_}
 use lib.ListN.{length}
 use lib.Seq.{length-take-le}
 use Rattle.paper.specs.Labelling.{plain}
 use Rattle.paper.specs.Write.{Written}
 use Rattle.paper.proofs.Arrow.{plain-sized}
-use Prim.Native.Nat.{_+_, _*_, _≤_}
 use Rattle.promises.proofs.Chains.{key-refused, lookup-places, key-checked}
 use Rattle.promises.proofs.kept.key_kept.Statement.{statement}
 use Rattle.promises.proofs.kept.key_kept.Tie as tie
