@@ -1,0 +1,2 @@
+-- Demand 3 from the Boolean that a handset computes.
+pub mod Pointing

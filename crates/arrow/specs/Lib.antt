@@ -1,0 +1,2 @@
+-- The arrow as the checks that a handset makes.
+pub mod Pointed
