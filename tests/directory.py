@@ -1,7 +1,7 @@
 #!/usr/bin/env python3
 """A directory after document 01, in plain Python over hashlib, written from the document alone.
 
-It publishes, and writes lookup, history and audit proofs. crates/worked is made with it (tests/worked_promise.py).
+It publishes, and writes lookup, history and audit proofs. crates/worked_arrow is made with it (tests/worked_promise.py).
 """
 import hashlib
 from os.path import commonprefix

@@ -1,5 +1,5 @@
 #!/usr/bin/env python3
-"""Prints crates/worked/proofs/Promise.antt: a directory in which a key was replaced, a lookup before and a history after, and the
+"""Prints crates/worked_arrow/proofs/Promise.antt: a directory in which a key was replaced, a lookup before and a history after, and the
 audit step between, as bytes; and that the checkers' definitions accept all three."""
 import os
 import sys

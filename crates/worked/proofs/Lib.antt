@@ -1,3 +1,0 @@
--- Worked cases.
-pub mod Cases
-pub mod Promise

@@ -26,9 +26,11 @@ use Rattle.paper.specs.Audit.{Audit, auditField, recordOf, olds, news, before?,
 use Rattle.paper.specs.Answer.{lookupNumber, historyNumber, auditNumber}
 use Rattle.paper.specs.Arrow.{AuditStep, Agrees, Collision, hashed}
 use Rattle.paper.proofs.Bytes.{bytewise}
-use Rattle.paper.proofs.Arrow.{demand-3, plain-sized}
+use Rattle.paper.proofs.Arrow.{plain-sized}
 use Rattle.paper.proofs.Verdicts.{Hold}
 use Rattle.paper.proofs.Accepted.{audit-accept, history-accept}
+use Rattle.arrow.specs.Pointed.{allAccepted}
+use Rattle.arrow.proofs.Pointing.{accepted-agrees}
 
 -- the value that was read, or another
 abbrev valueOf : {A : Type 0} → A → Read A → A
@@ -166,9 +168,11 @@ pub history-accepted : historyNumber (checkHistory plain after name history) ≡
 unfolding every isName inputTests
 history-accepted = ap historyNumber (history-accept plain after name history told history-read (refl, tt) history-holds)
 
--- ---- so demand 3 speaks of them
+-- ---- so the arrow's theorem speaks of them
+points : allAccepted plain before name lookup (step ∷ []) history ≡ true
+unfolding allAccepted
+points = rw (lookup-accepted, step-accepted, history-accepted)
+
 pub promise : Agrees (checkLookup plain before name lookup) lookup (step ∷ []) (checkHistory plain after name history) history
     ⊎ Collision (hashed plain name lookup (step ∷ []) history)
-promise =
-    demand-3 plain plain-sized name before after lookup history (step ∷ []) (bytewise lookup tt) (bytewise (step .proof) tt, tt) (bytewise history tt)
-    lookup-accepted (step-accepted, refl) history-accepted
+promise = accepted-agrees plain plain-sized before name lookup (step ∷ []) history (bytewise lookup tt) (bytewise (step .proof) tt, tt) (bytewise history tt) points

@@ -1,0 +1,2 @@
+-- Demand 3 at work: an example, by computation.
+pub mod Promise
