@@ -1,5 +1,6 @@
 #!/usr/bin/env python3
-"""Prints the stack that functions of the driver program take, with all that they call, from the program's own instructions.
+"""Prints the stack that functions of the driver program take, or of another (-p PROGRAM), with all that they call, from the program's own
+instructions: `python3 tests/stack.py main`, `python3 tests/stack.py -p target/c/driver noonhaggle_publish`.
 
 A function's frame is what it pushes, what it subtracts from the stack pointer, and its return address. A large frame is taken page by page,
 in a loop whose end is reckoned in the register r11 first. A function's stack is its frame and the largest stack of a function that it calls.
@@ -12,7 +13,11 @@ import subprocess
 import sys
 
 ROOT = os.path.dirname(os.path.dirname(os.path.abspath(__file__)))
-text = subprocess.run(["objdump", "-d", "--no-show-raw-insn", os.path.join(ROOT, "target/bin/driver")], capture_output=True, text=True, check=True).stdout
+PROGRAM = os.path.join(ROOT, "target/bin/driver")
+if sys.argv[1:2] == ["-p"]:
+    PROGRAM = sys.argv[2]
+    del sys.argv[1:3]
+text = subprocess.run(["objdump", "-d", "--no-show-raw-insn", PROGRAM], capture_output=True, text=True, check=True).stdout
 
 DEPTHS = {
     "audit_root::below": 256,
