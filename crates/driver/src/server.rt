@@ -56,15 +56,16 @@ fn answer_tree_path(entries: &[u8], label: &[u8], absent: bool) {
 pub(crate) fn call_tree_path(r: Request, space: &mut [u8]) -> Request
     requires { ⌜ Spacious (now space) ⌝ }
 {
-    let f = read_at(r, space, 0, 557124);
-    let g = read_at(f.rest, space, 557124, 256);
+    let behind = 557124;
+    let f = read_at(r, space, 0, behind);
+    let g = read_at(f.rest, space, behind, 256);
     let absent = wire::read_number16(g.rest);
     let m = f.length;
-    let n = 557124 + g.length;
+    let n = behind + g.length;
     let rest = absent.rest;
     if wire::whole(rest) {
         let all = &space[..];
-        answer_tree_path(&all[0..m], &all[557124..n], absent.value != 0);
+        answer_tree_path(&all[0..m], &all[behind..n], absent.value != 0);
     }
     rest
 }

@@ -100,12 +100,14 @@ fn lent(room: u32) -> usize
 fn write_from(call: u8, space: &[u8], t: Tables, name: usize, epoch: u32, out: &mut [u8])
     requires { ⌜ Spacious (now space) × (t .records ≤ 688296) × (t .heads ≤ 2097184) × (name ≤ 1024) ⌝ }
 {
-    let k = 1024 + t.records;
-    let m = 689320 + t.heads;
+    let a = 1024;
+    let b = 689320;
+    let k = a + t.records;
+    let m = b + t.heads;
     answer_write(
         call,
-        &space[1024..k],
-        &space[689320..m],
+        &space[a..k],
+        &space[b..m],
         t.state,
         &space[0..name],
         epoch,
@@ -140,9 +142,11 @@ pub(crate) fn call_write(call: u8, r: Request, space: &mut [u8], spare: &mut [u8
 fn audit_from(space: &[u8], t: Tables, epoch: u32, out: &mut [u8])
     requires { ⌜ Spacious (now space) × (t .records ≤ 688296) × (t .heads ≤ 2097184) ⌝ }
 {
-    let k = 1024 + t.records;
-    let m = 689320 + t.heads;
-    answer_audit(&space[1024..k], &space[689320..m], t.state, epoch, out);
+    let a = 1024;
+    let b = 689320;
+    let k = a + t.records;
+    let m = b + t.heads;
+    answer_audit(&space[a..k], &space[b..m], t.state, epoch, out);
 }
 
 pub(crate) fn call_write_audit(r: Request, space: &mut [u8], spare: &mut [u8]) -> Request
