@@ -3,7 +3,6 @@
 use crate::words::big0;
 use crate::words::big1;
 use crate::words::ch;
-use crate::words::constants;
 use crate::words::maj;
 use crate::words::small0;
 use crate::words::small1;
@@ -120,7 +119,7 @@ fn eight(s: State, k: &[u32; 64], w: &[u32; 64], t: usize) -> State
     round(r7, k[t + 7], w[t + 7])
 }
 
-// The hash value after a block. The constants are lent: an array that a function names as a constant is laid out anew at each use.
+// The hash value after a block. The constants are lent, as everywhere: an array that code names as a constant is laid out anew at each use.
 fn compress(s: State, k: &[u32; 64], b: &[u8]) -> State
     requires { ⌜ (now k ≡ W.K) × (length (now b) ≡ 64) ⌝ }
     ensures { λ r. ⌜ r ≡ S.compress s (now (b .entry)) ⌝ }
@@ -136,15 +135,15 @@ fn compress(s: State, k: &[u32; 64], b: &[u8]) -> State
 }
 
 // The hash value after the whole blocks of `m`. What is left of `m`, less than a block, has no part.
-pub(crate) fn blocks(s: State, m: &[u8]) -> State
+pub(crate) fn blocks(s: State, k: &[u32; 64], m: &[u8]) -> State
+    requires { ⌜ now k ≡ W.K ⌝ }
     ensures { λ r. ⌜ r ≡ S.hash s (now (m .entry)) ⌝ }
 {
-    let k = constants();
     let mut r = s;
     let mut at = 0;
     while 64 <= m.len() - at {
         let next = at + 64;
-        r = compress(r, &k, &m[at..next]);
+        r = compress(r, k, &m[at..next]);
         at = next;
     }
     r

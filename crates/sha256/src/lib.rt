@@ -5,10 +5,12 @@ mod words;
 
 use block::blocks;
 use fips::State;
+use words::constants;
 ghost use mathlib.Core.Path.{_≡_};
 ghost use Prim.Native.Nat.{_+_, _<_, _≤_};
 ghost use lib.ListN.{length};
 ghost use lib.Seq.{sets};
+ghost use Rattle.fips.specs.Words as W;
 ghost use Rattle.fips.specs.Sha256 as S;
 ghost use Rattle.sha256.specs.Ending.{ending};
 
@@ -52,8 +54,8 @@ fn put(d: &mut [u8; 128], at: usize, bytes: &[u8])
 
 // Section 5.1.1: the hash value at the end of a message of `bits` bits, where `m` is what comes after
 // its last whole block. The mark and the length take 9 bytes, so a second block is needed from 56 on.
-fn finish(s: State, m: &[u8], bits: u64) -> State
-    requires { ⌜ length (now m) < 64 ⌝ }
+fn finish(s: State, k: &[u32; 64], m: &[u8], bits: u64) -> State
+    requires { ⌜ (now k ≡ W.K) × (length (now m) < 64) ⌝ }
     ensures { λ r. ⌜ r ≡ S.hash s (ending (now (m .entry)) bits) ⌝ }
 {
     let end = (m.len() + 8) / 64 * 64 + 64;
@@ -61,7 +63,7 @@ fn finish(s: State, m: &[u8], bits: u64) -> State
     put(&mut d, 0, m);
     d[m.len()] = 0x80;
     put(&mut d, end - 8, &be64(bits));
-    blocks(s, &d[0..end])
+    blocks(s, k, &d[0..end])
 }
 
 // The bytes of the hash value, each word's first the most significant.
@@ -108,8 +110,9 @@ fn digest(s: State) -> [u8; 32]
 pub fn sha256(msg: &[u8]) -> [u8; 32]
     ensures { λ r. ⌜ r ≡ S.sha256 (now (msg .entry)) ⌝ }
 {
-    let s = blocks(START, msg);
+    let k = constants();
+    let s = blocks(START, &k, msg);
     let at = msg.len() / 64 * 64;
     let bits = (msg.len() as u64) << 3;
-    digest(finish(s, &msg[at..], bits))
+    digest(finish(s, &k, &msg[at..], bits))
 }

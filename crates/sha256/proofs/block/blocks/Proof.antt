@@ -10,20 +10,20 @@ use Rattle.sha256.proofs.block.blocks.Statement.{statement}
 use Rattle.sha256.proofs.block.blocks.Tie as tie
 
 abbrev Inv-loop : tie.InvT-loop
-Inv-loop m k r₀ at₀ r at = (at ≤ length m) × (S.hash r (drop at m) ≡ S.hash r₀ m)
+Inv-loop k m r₀ at₀ r at = (at ≤ length m) × (S.hash r (drop at m) ≡ S.hash r₀ m)
 
 abbrev μ-loop : tie.MeasureT-loop
-μ-loop m k r₀ at₀ r at = length m - at
+μ-loop k m r₀ at₀ r at = length m - at
 
 loop-holds : tie.Need-loop-holds Inv-loop μ-loop
 loop-holds c = (omega arith, refl)
 
 compress-requires : tie.Need-compress-requires Inv-loop μ-loop
-compress-requires c κs = (c .before .before .before .before .constants .ensures, search needs)
+compress-requires c κs = (c .before .before .before .before .pre, search needs)
 
 loop-again : tie.Need-loop-again Inv-loop μ-loop
 loop-again c =
-    let l = c .before .before .before .before .loop in
+    let l = c .before .before .before .loop in
     (omega arith, blocks-turn _ (l .at) (l .at + 64 - l .at) (l .r) _ _ (omega arith) (omega arith) (c .compress .ensures) (l .inv .1))
 
 returns : tie.Need-returns Inv-loop μ-loop
@@ -37,7 +37,6 @@ blocks-spec =
     (tie.spec
     Inv-loop
     μ-loop
-    (λ c κs. search needs)
     loop-holds
     (λ c. search needs)
     (λ c. search needs)
