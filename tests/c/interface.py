@@ -1,7 +1,7 @@
 #!/usr/bin/env python3
 """Puts requests through C programs that are linked with the archive (tests/c/run builds them), and holds what they print to what other
 implementations say: to tests/c/driver.c the driver's own sample, as far as the archive has its calls; to tests/c/check.c the checking
-program's cases, and the accepted key."""
+program's cases, and the accepted key. `kit` runs the programs that the kit's compiler made, `native` those of the machine's own."""
 import os
 import subprocess
 import sys
@@ -15,6 +15,8 @@ CALLS = {1, 4, 5, 6, 10, 11, 12, 13, 14}
 
 
 def command(name):
+    if sys.argv[1:] == ["native"]:
+        return [os.path.join(driver.ROOT, "target", "c", "native", name)]
     return driver.command()[:-1] + [os.path.join(driver.ROOT, "target", "c", name)]
 
 
@@ -39,7 +41,7 @@ def interface():
     for call, a, b in wrong[:5]:
         print(f"call {call}: expected {a[:120]}, got {b[:120]}")
     seen = sorted({r[4] for r, _ in given})
-    print(f"C interface: {len(given)} requests of calls {', '.join(map(str, seen))}, {len(wrong)} wrong")
+    print(f"C interface ({' '.join(sys.argv[1:])}): {len(given)} requests of calls {', '.join(map(str, seen))}, {len(wrong)} wrong")
     return len(lines) == len(given) and not wrong and seen == sorted(CALLS)
 
 
