@@ -8,7 +8,7 @@ pub struct Compared {
     pub theirs: f64,
 }
 
-const ROUNDS: usize = 15;
+const ROUNDS: usize = 25;
 const ROUND: Duration = Duration::from_millis(8);
 
 /// How many calls fill a round.
@@ -30,23 +30,23 @@ fn round(n: usize, f: &mut impl FnMut() -> usize) -> f64 {
     start.elapsed().as_secs_f64() / n as f64
 }
 
-fn middle(mut times: Vec<f64>) -> f64 {
-    times.sort_by(f64::total_cmp);
-    times[times.len() / 2]
+/// Whatever else the machine does only adds to a time.
+fn least(times: Vec<f64>) -> f64 {
+    times.into_iter().fold(f64::INFINITY, f64::min)
 }
 
-/// The middle time of a call of each, over rounds in turns.
+/// The least time of a call of each, over rounds in turns.
 pub fn compared(mut ours: impl FnMut() -> usize, mut theirs: impl FnMut() -> usize) -> Compared {
     let (n, m) = (calls(&mut ours), calls(&mut theirs));
     let rounds = (0..ROUNDS).map(|_| (round(n, &mut ours), round(m, &mut theirs)));
     let (a, b) = rounds.unzip();
-    Compared { ours: middle(a), theirs: middle(b) }
+    Compared { ours: least(a), theirs: least(b) }
 }
 
-/// The middle time of a call.
+/// The least time of a call.
 pub fn alone(mut f: impl FnMut() -> usize) -> f64 {
     let n = calls(&mut f);
-    middle((0..ROUNDS).map(|_| round(n, &mut f)).collect())
+    least((0..ROUNDS).map(|_| round(n, &mut f)).collect())
 }
 
 pub fn shown(seconds: f64) -> String {
