@@ -43,12 +43,6 @@ pub fn compared(mut ours: impl FnMut() -> usize, mut theirs: impl FnMut() -> usi
     Compared { ours: least(a), theirs: least(b) }
 }
 
-/// The least time of a call.
-pub fn alone(mut f: impl FnMut() -> usize) -> f64 {
-    let n = calls(&mut f);
-    least((0..ROUNDS).map(|_| round(n, &mut f)).collect())
-}
-
 pub fn shown(seconds: f64) -> String {
     match seconds {
         s if s < 1e-6 => format!("{:.0} ns", s * 1e9),

@@ -1,24 +1,23 @@
-//! What the hashing in a check or a call takes by itself: strings of the same lengths, as many as it hashes, through the same SHA-256.
-use crate::clock::alone;
+//! The hashing of a check or a call by itself: strings of the same lengths, as many as it hashes, to go through the same SHA-256.
 use crate::directory::Directory;
 
 /// An inner node has 99 bytes, a leaf 69, a head 101: each is two blocks. A label of a short name is one, as is nothing.
 const NODE: usize = 99;
 
-fn of(strings: &[(usize, usize)]) -> f64 {
-    let given: Vec<(usize, Vec<u8>)> = strings.iter().map(|&(many, size)| (many, vec![0x55; size])).collect();
-    alone(|| {
-        let mut sum = 0;
-        for (many, data) in &given {
-            for _ in 0..*many {
-                sum += noonhaggle::sha256(data)[0] as usize;
-            }
-        }
-        sum
-    })
+/// How many strings of each length.
+pub struct Strings(Vec<(usize, Vec<u8>)>);
+
+fn of(strings: &[(usize, usize)]) -> Strings {
+    Strings(strings.iter().map(|&(many, size)| (many, vec![0x55; size])).collect())
 }
 
-pub fn of_nodes(many: usize) -> f64 {
+impl Strings {
+    pub fn hash(&self) -> usize {
+        self.0.iter().map(|(many, data)| (0..*many).map(|_| noonhaggle::sha256(data)[0] as usize).sum::<usize>()).sum()
+    }
+}
+
+pub fn of_nodes(many: usize) -> Strings {
     of(&[(many, NODE)])
 }
 
@@ -46,7 +45,7 @@ fn keys(proof: &[u8], many: usize) -> (usize, Vec<usize>) {
     (at, lengths)
 }
 
-fn of_shown(proof: &[u8], many: usize, name: usize) -> f64 {
+fn of_shown(proof: &[u8], many: usize, name: usize) -> Strings {
     let (at, lengths) = keys(proof, many);
     let (paths, steps) = paths(proof, at);
     let mut strings = vec![(1, 101), (paths, 4 + name), (steps + paths, NODE)];
@@ -54,11 +53,11 @@ fn of_shown(proof: &[u8], many: usize, name: usize) -> f64 {
     of(&strings)
 }
 
-pub fn of_lookup(proof: &[u8], name: usize) -> f64 {
+pub fn of_lookup(proof: &[u8], name: usize) -> Strings {
     of_shown(proof, (u16::from_be_bytes([proof[106], proof[107]]) > 0) as usize, name)
 }
 
-pub fn of_history(proof: &[u8], name: usize) -> f64 {
+pub fn of_history(proof: &[u8], name: usize) -> Strings {
     of_shown(proof, u16::from_be_bytes([proof[106], proof[107]]) as usize, name)
 }
 
@@ -68,12 +67,8 @@ fn leaves(d: &Directory) -> (usize, usize) {
     versions.fold((0, 0), |(all, old), v| (all + 1 + v.is_power_of_two() as usize, old + (v > 1) as usize))
 }
 
-pub fn of_trees(d: &Directory) -> f64 {
+/// Both trees of an epoch, once.
+pub fn of_trees(d: &Directory) -> Strings {
     let (all, old) = leaves(d);
     of(&[(all + old, 14), (2 * (all + old), NODE), (d.state.count as usize, 65)])
-}
-
-/// Publishing hashes the new trees once.
-pub fn of_publishing(d: &Directory) -> f64 {
-    of_trees(d)
 }

@@ -7,6 +7,7 @@ mod picture;
 
 use clock::{compared, Compared};
 use directory::Directory;
+use hashing::Strings;
 use picture::bar;
 
 const CHECK_GOAL: f64 = 1.15;
@@ -14,9 +15,13 @@ const WORK_GOAL: f64 = 1.3;
 const HASH_GOAL: f64 = 0.9;
 const TABLES: [usize; 3] = [256, 1024, 3840];
 
-fn line(what: &str, c: &Compared, hashing: Option<f64>) {
-    let share = hashing.map_or(String::new(), |h| format!("  hashing {:3.0} of 100", 100.0 * h / c.ours));
-    println!("  {what:44} {:>10}  independent {:>10}  ratio {:4.2}{share}", clock::shown(c.ours), clock::shown(c.theirs), c.ours / c.theirs);
+/// The two in turns, and ours in turns with its own hashing alone: a line, and how often its hashing's time ours takes.
+fn line(what: &str, mut ours: impl FnMut() -> usize, theirs: impl FnMut() -> usize, hashing: &Strings) -> (Compared, f64) {
+    let c = compared(&mut ours, theirs);
+    let own = compared(ours, || hashing.hash());
+    let share = 100.0 * own.theirs / own.ours;
+    println!("  {what:44} {:>10}  independent {:>10}  ratio {:4.2}  hashing {share:3.0} of 100", clock::shown(c.ours), clock::shown(c.theirs), c.ours / c.theirs);
+    (c, own.ours / own.theirs)
 }
 
 fn digests() {
@@ -24,44 +29,42 @@ fn digests() {
     for size in [1usize, 55, 64, 99, 256, 1024, 16384, 1 << 20] {
         let data = vec![0x61; size];
         let c = compared(|| noonhaggle::sha256(&data)[0] as usize, || independent::sha256(&data)[0] as usize);
-        line(&format!("{size} bytes"), &c, None);
-        println!("  {:44} speed {:4.2} of it, {:.0} MB/s", "", c.theirs / c.ours, size as f64 / c.ours / 1e6);
+        let (a, b) = (clock::shown(c.ours), clock::shown(c.theirs));
+        println!("  {:44} {a:>10}  independent {b:>10}  speed {:4.2} of it, {:.0} MB/s", format!("{size} bytes"), c.theirs / c.ours, size as f64 / c.ours / 1e6);
     }
 }
 
-/// What a check takes, and how that stands to its own hashing alone.
-fn check(what: &str, c: Compared, hashing: f64) {
-    line(what, &c, Some(hashing));
-    println!("  {:44} {:4.2} of its own hashing (goal {CHECK_GOAL})", "", c.ours / hashing);
+/// What a check takes, and how that stands to its own hashing.
+fn check(what: &str, ours: impl FnMut() -> usize, theirs: impl FnMut() -> usize, hashing: &Strings) {
+    let (_, times) = line(what, ours, theirs, hashing);
+    println!("  {:44} {times:4.2} of its own hashing (goal: at most {CHECK_GOAL})", "");
 }
 
 fn checks() {
     println!("Checks");
-    let d = Directory::of(1024, 1);
-    let (head, name, proof) = d.lookup(b"name-00007");
-    let c = compared(
+    let (head, name, proof) = Directory::of(1024, 1).lookup(b"name-00007");
+    check(
+        "a lookup, 1,024 records",
         || noonhaggle::check_lookup(&head, &name, &proof).is_ok() as usize,
         || independent::check_lookup(&head, &name, &proof).is_ok() as usize,
+        &hashing::of_lookup(&proof, name.len()),
     );
-    check("a lookup, 1,024 records", c, hashing::of_lookup(&proof, name.len()));
-
-    let d = Directory::of(1024, 100);
-    let (head, name, proof) = d.history(b"name-00007");
-    let c = compared(
+    let (head, name, proof) = Directory::of(1024, 100).history(b"name-00007");
+    check(
+        "a history of 100, 1,024 records",
         || noonhaggle::check_history(&head, &name, &proof).is_ok() as usize,
         || independent::check_history(&head, &name, &proof).is_ok() as usize,
+        &hashing::of_history(&proof, name.len()),
     );
-    check("a history of 100, 1,024 records", c, hashing::of_history(&proof, name.len()));
-
     for size in TABLES {
-        let d = Directory::of(size, 1);
-        let (old, new, proof) = d.audit();
-        let c = compared(
+        let (old, new, proof) = Directory::of(size, 1).audit();
+        let digests = noonhaggle::check_audit(&old, &new, &proof).expect("accepted").digests;
+        check(
+            &format!("an audit of 256 updates, {size} records before"),
             || noonhaggle::check_audit(&old, &new, &proof).is_ok() as usize,
             || independent::check_audit(&old, &new, &proof).is_ok() as usize,
+            &hashing::of_nodes(digests as usize),
         );
-        let digests = noonhaggle::check_audit(&old, &new, &proof).expect("accepted").digests;
-        check(&format!("an audit of 256 updates, {size} records before"), c, hashing::of_nodes(digests as usize));
     }
 }
 
@@ -74,11 +77,12 @@ fn publishing() {
         let (mut r2, mut h2) = (r.clone(), h.clone());
         let before = d.before;
         let other = independent::State { count: before.count, epoch: before.epoch };
-        let c = compared(
+        let (c, _) = line(
+            &format!("into {size} records"),
             || noonhaggle::publish(&mut r, &mut h, before, &d.batch).expect("published").count as usize,
             || independent::publish(&mut r2, &mut h2, other, &d.batch).expect("published").count as usize,
+            &hashing::of_trees(&d),
         );
-        line(&format!("into {size} records"), &c, Some(hashing::of_publishing(&d)));
         taken.push((format!("{size}"), c.ours));
     }
     bar("  growth with the records before", &taken);
@@ -87,8 +91,7 @@ fn publishing() {
 /// A writer of either implementation, over a directory.
 fn written(what: &str, d: &Directory, ours: impl Fn(&mut [u8]) -> usize, theirs: impl Fn(&mut [u8]) -> usize) -> f64 {
     let (mut out, mut out2) = (vec![0; 1 << 20], vec![0; 1 << 20]);
-    let c = compared(|| ours(&mut out), || theirs(&mut out2));
-    line(what, &c, Some(hashing::of_trees(d)));
+    let (c, _) = line(what, || ours(&mut out), || theirs(&mut out2), &hashing::of_trees(d));
     c.ours
 }
 
