@@ -6,3 +6,4 @@ pub mod Histories
 pub mod Audits
 pub mod Publishings
 pub mod Chains
+pub mod Unread
