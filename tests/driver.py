@@ -62,7 +62,7 @@ def answers(requests):
     return done.stdout.decode().split("\n")[:-1]
 
 
-class Session:
+class Running:
     """A run of the driver that is asked request by request."""
 
     def __enter__(self):

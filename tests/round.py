@@ -12,7 +12,7 @@ import sys
 sys.dont_write_bytecode = True
 import checker
 from answer import line
-from driver import Session
+from driver import Running
 from publish_cases import update
 
 ANY = random.Random(25)  # the same directories each time
@@ -27,14 +27,14 @@ LATER = b"zed"  # a name that is never published
 class Published:
     """A directory that the driver keeps: records, heads, count and epoch as its answers left them, and the keys that were published."""
 
-    def __init__(self, session, epochs):
-        count, epoch, heads = session.ask("start", bytes(32 * (epochs + 1))).split(" ")
+    def __init__(self, running, epochs):
+        count, epoch, heads = running.ask("start", bytes(32 * (epochs + 1))).split(" ")
         self.tables = bytes(168 * SLOTS), bytes.fromhex(heads), int(count), int(epoch)
-        self.session, self.keys = session, collections.defaultdict(list)
+        self.running, self.keys = running, collections.defaultdict(list)
 
     def publish(self, names):
         batch = [(name, ANY.randbytes(ANY.randint(1, 64)), ANY.randbytes(32)) for name in names]
-        answer = self.session.ask("publish", *self.tables, b"".join(update(*x) for x in batch))
+        answer = self.running.ask("publish", *self.tables, b"".join(update(*x) for x in batch))
         count, epoch, records, heads = answer.split(" ")
         self.tables = bytes.fromhex(records), bytes.fromhex(heads), int(count), int(epoch)
         for name, key, _ in batch:
@@ -75,26 +75,26 @@ def turned(proof):
     return proof[:at] + bytes([proof[at] ^ 1 << ANY.randrange(8)]) + proof[at + 1 :]
 
 
-def tried(session, check, under, proof):
+def tried(running, check, under, proof):
     """The driver's answer, and whether it is the other implementation's."""
-    said = session.ask(check, *under, proof)
+    said = running.ask(check, *under, proof)
     return said, said == line(getattr(checker, check), *under, proof)
 
 
-def round_trip(session, d, seen):
+def round_trip(running, d, seen):
     """Puts each proof of the directory, and gives what was wrong."""
     for write, fields, check, under, is_own in proofs(d):
-        written = session.ask(write, *d.tables, *fields, ROOM)
+        written = running.ask(write, *d.tables, *fields, ROOM)
         if written.startswith("refused"):
             yield f"{write} {fields}: {written}"
             continue
         proof = bytes.fromhex(written)
-        said, same = tried(session, check, under, proof)
+        said, same = tried(running, check, under, proof)
         if said.startswith("refused") or not same or not is_own(said, proof):
             yield f"{write} {fields}: the written proof is answered {said}"
         seen[check, "accepted"] += 1
         for _ in range(EDITS):
-            said, same = tried(session, check, under, turned(proof))
+            said, same = tried(running, check, under, turned(proof))
             if not same or not said.startswith("refused"):
                 yield f"{write} {fields}: with a bit turned it is answered {said}"
             seen[check, said] += 1
@@ -102,13 +102,13 @@ def round_trip(session, d, seen):
 
 def main():
     wrong, seen = [], collections.Counter()
-    with Session() as session:
+    with Running() as running:
         for _ in range(DIRECTORIES):
             epochs = ANY.randint(1, 9)
-            d = Published(session, epochs)
+            d = Published(running, epochs)
             for _ in range(epochs):
                 d.publish(ANY.sample(NAMES, ANY.choice((0, 1, 2, 3, 6))))
-            wrong += round_trip(session, d, seen)
+            wrong += round_trip(running, d, seen)
     for x in wrong[:10]:
         print(x)
     for (check, said), many in sorted(seen.items()):

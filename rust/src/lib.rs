@@ -190,12 +190,12 @@ pub fn write_audit(records: &[u8], heads: &[u8], state: State, epoch: u32, out: 
 /// # Panics
 /// Where name or key is longer than 64 bytes. Bounds below that are [`publish`]'s to test.
 pub fn update(name: &[u8], key: &[u8], opening: &[u8; 32]) -> [u8; 162] {
+    assert!(name.len() <= 64 && key.len() <= 64);
     let mut u = [0; 162];
     u[0] = name.len() as u8;
     u[1..1 + name.len()].copy_from_slice(name);
     u[65] = key.len() as u8;
     u[66..66 + key.len()].copy_from_slice(key);
     u[130..].copy_from_slice(opening);
-    assert!(name.len() <= 64 && key.len() <= 64);
     u
 }
