@@ -182,6 +182,20 @@ module _ (s : Bytes) (at : ℕ) where
   pub list-place : (e : ℕ) → afterRead s (listField .read (drop at s)) ≡ At e → e ≤ length s
   list-place e q = let (t, b) = one-list e q in rw b at (list-reach s at t)
 
+-- what a list reads as, stands at its place
+read-got : {A : Type 0} (t : Bool) (x y : A) (q r : Bytes) → cond t (got x q) bad ≡ got y r → (t ≡ true) × (x ≡ y)
+read-got true x y q r e = (refl, cc)
+read-got false x y q r e = let z : _≡_ {A = ℕ} 0 1 = cc in absurd (omega arith)
+
+pub record ListStands (s : Bytes) (at : ℕ) (R : List AuditRecord) : Type 0 where
+  pub listed : Listed s (at + 4) (countAt s at)
+  pub records : recordsAt s (at + 4) (countAt s at) ≡ R
+
+pub list-stands : (s : Bytes) (at : ℕ) (R : List AuditRecord) (r : Bytes) → Bytewise s → listField .read (drop at s) ≡ got R r → ListStands s at R
+list-stands s at R r w e =
+    let (t, q) = read-got (listTest s at) _ R _ r (sym (list-at s at .reads) ∙ e) in
+    record { listed = list-tells s at w t; records = q }
+
 headTest : Bytes → ℕ → Bool
 headTest s at =
     (leb (at + 4) (length s) && (leb 0 (number (take 4 (drop at s))) && leb (number (take 4 (drop at s))) epochMost))

@@ -9,11 +9,13 @@ use lib.Dec.{eqb, leb}
 use lib.ListN.{length, length-append}
 use borrow.Author.Tests.{eqb-true, eq-eqb, eqb-false, le-leb}
 use Rattle.paper.specs.Lists.{_∈_, All, every, keep}
+use Rattle.paper.specs.Numbers.{auditMost}
 use Rattle.paper.specs.Bytes.{Bytes}
 use Rattle.paper.specs.Bits.{Bits, Pfx, starts, _▹_}
 use Rattle.paper.specs.Strings.{Node, leaf, inner, nothing}
 use Rattle.paper.specs.Tree.{key, digest, Tree, empty, top, common, side, build, root, rootDigest}
-use Rattle.paper.specs.Audit.{AuditRecord, unchanged, opened, fresh, recordKey, olds, news, inOrder, Which, commitmentIn, recordRule, auditRecordField}
+use Rattle.paper.specs.Layout.{led, within, times}
+use Rattle.paper.specs.Audit.{AuditRecord, unchanged, opened, fresh, recordKey, olds, news, inOrder, Which, commitmentIn, recordRule, auditRecordField, listField}
 use Rattle.paper.specs.Write.{hasNew, subtrees, belowRoot}
 use Rattle.paper.proofs.Lists.{all-in, in-all, all-left, all-right, all-append, and-both, all-every, keep-in, in-keep, keep-passes, in-left, in-right}
 use Rattle.paper.proofs.Bits.{pfx-trans, pfx-length, length-snoc, pfx-one-way, starts-pfx}
@@ -255,12 +257,17 @@ module _ (t : ℕ) (S : List Node) (set : LeafSet S) where
       by b (nobody e q) = subst (λ T. All Q (subtrees t T)) (sym q) (subst (λ R. All Q R) (sym no-trees) tt)
       by b (grown g) = cut-each P Q fr un op ([] ▹ b) (half b) g (omega arith) (leaves b) (mine b)
 
-  pub list-fits : All (auditRecordField .Fits) list
+  list-fits : All (auditRecordField .Fits) list
   list-fits = list-each LeafSized (λ x. auditRecordField .Fits x)
       (λ m c e s _. record-fit (fresh m c e) s)
       (λ m c e s _. record-fit (unchanged m c e) s)
       (λ p l r a b. record-fit (opened p (digest (top l)) (digest (top r))) (a, b, digest-wide _, digest-wide _))
       (set .sized)
+
+  -- "audit records per tree | 0 to 16,384"
+  pub list-fit : length list ≤ auditMost → listField .Fits list
+  unfolding led within times
+  list-fit n = ((omega arith, n, omega arith), (refl, list-fits))
 
   pub list-rules : (w : Which) (old : ℕ) → t ≡ suc old → All (LeafRuled t w) S → every (recordRule w old t) list ≡ true
   list-rules w old z a = all-every _ list (list-each (LeafRuled t w) (λ x. recordRule w old t x ≡ true)

@@ -91,7 +91,7 @@ module _ (lab : Labelling) (sized : Sized lab) (records heads : Bytes) (state : 
       subst (λ d. checkAudit d (headAt heads (suc t)) (auditField .bytes (auditProof lab heads (suc t) rs)) ≡ A.Accepted t (suc t) (length (auditStrings (auditProof lab heads (suc t) rs)))) (sym (heads-are t j))
       (subst (λ d. checkAudit (headDigest lab heads t rs) d (auditField .bytes (auditProof lab heads (suc t) rs)) ≡ A.Accepted t (suc t) (length (auditStrings (auditProof lab heads (suc t) rs)))) (sym (heads-are (suc t) k))
       (audit-complete lab sized (state .epoch) t rs fits few (kept .shape) heads (omega (arith, epoch-small)) (previous-wide t j) (heads-are t j)
-      (kept .all-distinct t j) (kept .old-distinct t j) (kept .all-distinct (suc t) k) (kept .old-distinct (suc t) k)))
+      (kept .all-distinct (suc t) k) (kept .old-distinct (suc t) k)))
 
   -- ---- and the writers do answer
 

@@ -29,6 +29,7 @@ pub mod Complete
 pub mod Rebuild
 pub mod Cut
 pub mod Audited
+pub mod Before
 pub mod AuditComplete
 pub mod Pasted
 pub mod Shape

@@ -41,7 +41,7 @@ module _ (lab : Labelling) (sized : Sized lab) {records heads : Bytes} {state : 
       subst (λ d. checkAudit d (headAt heads (suc t)) b ≡ a) (sym (stands .head-is t j))
       (subst (λ d. checkAudit (headDigest lab heads t rs) d b ≡ a) (sym (stands .head-is (suc t) k))
       (audit-complete lab sized (state .epoch) t rs (stands .fits) (stands .few) (stands .shape) heads (omega (arith, stands .epochs)) (stands .previous t j) (stands .head-is t j)
-      (stands .all-distinct t j) (stands .old-distinct t j) (stands .all-distinct (suc t) k) (stands .old-distinct (suc t) k)))
+      (stands .all-distinct (suc t) k) (stands .old-distinct (suc t) k)))
 
   accepted : (t : ℕ) → 1 ≤ t → t ≤ state .epoch → checkAudit (headAt heads (t - 1)) (headAt heads t) (auditField .bytes (auditProof lab heads t rs)) ≡ auditAnswer lab t rs heads
   accepted zero l k = absurd (omega arith)

@@ -42,7 +42,8 @@ leaves-sized (suc n) s h w =
       leaves-sized n (drop 68 s) (omega (arith, length-drop 68 s)) (all-drop _ 68 s w),
     )
 
-leaf-set : (n : ℕ) (s : Bytes) → Sorted n s → Bytewise s → LeafSet (leavesIn n s)
+-- leaves in bit order are a set
+pub leaf-set : (n : ℕ) (s : Bytes) → Sorted n s → Bytewise s → LeafSet (leavesIn n s)
 leaf-set n s h w = record {
   free = ordered-free (leavesIn n s) (rising-ordered (leavesIn n s) (h .rises));
   sized = leaves-sized n s (omega (arith, h .size)) w;

@@ -1,20 +1,27 @@
 -- A proof's bytes as they are written: how many they are, and that they stand one behind the other. Assumes nothing.
 use mathlib.Core.Path.{_≡_, refl, sym, ap, _∙_}
+use mathlib.Core.Bool.{true}
 use mathlib.Core.List.{List, [], _∷_, _++_, append-assoc}
 use Prim.Native.Nat.{ℕ, zero, suc, _+_, _-_, _*_, _≤_}
 use native.Mathlib.Omega.{arith}
-use lib.ListN.{length, length-append, length-replicate}
-use Rattle.paper.specs.Bytes.{Bytes, be, pasted}
+use lib.ListN.{length, drop, length-append, length-replicate}
+use lib.Seq.{drop-at, drop-drop}
+use Rattle.paper.specs.Numbers.{auditMost}
+use Rattle.paper.specs.Bytes.{Bytes, Bytewise, be, pasted}
 use Rattle.paper.specs.Strings.{Node, Head, nodeString}
 use Rattle.paper.specs.Tree.{top, root, rootDigest}
 use Rattle.paper.specs.Layout.{view, seq, fixed}
 use Rattle.paper.specs.Fields.{headField}
-use Rattle.paper.specs.Audit.{Audit, listField, auditField}
+use Rattle.paper.specs.Audit.{Audit, inOrder, olds, listField, auditField}
 use Rattle.paper.specs.Table.{previousHead}
 use Rattle.paper.specs.Write.{belowRoot}
 use Rattle.paper.specs.Level.{leavesIn}
 use Rattle.paper.proofs.Bytes.{be-length}
+use Rattle.paper.proofs.Pasted.{pasted-behind}
+use Rattle.paper.proofs.Proofs.{list-lawful}
 use Rattle.paper.proofs.Fits.{digest-wide}
+use Rattle.paper.proofs.Honest.{LeafSet}
+use Rattle.paper.proofs.Audited.{list-order, list-fit}
 use Rattle.words.proofs.Pasted.{length-part}
 use Rattle.tree.specs.Stored.{Sorted, Stored}
 use Rattle.tree.specs.declared.Sides.{Sides}
@@ -24,8 +31,9 @@ use Rattle.tree_path.proofs.Writing.{laid-next}
 use Rattle.subtrees.proofs.News.{root-few}
 use Rattle.subtrees.proofs.Records.{list-size}
 use Rattle.front.proofs.Front.{head-parts, previous-some}
-use Rattle.write_audit.specs.Audited.{rootsOf, headWith, auditWith, bytesWith, Step}
-use Rattle.write_audit.specs.declared.roots.Roots.{Roots}
+use Rattle.audit_form.specs.Places.{countAt, recordsAt}
+use Rattle.audit_form.proofs.Form.{ListStands, list-stands}
+use Rattle.write_audit.specs.Audited.{headWith, rootBefore, auditWith, bytesWith, newWith, NewLaid, Step}
 
 -- ---- a head
 
@@ -66,8 +74,12 @@ previous-wide : (heads : Bytes) (t : ℕ) → t * 32 ≤ length heads → length
 previous-wide heads zero h = length-replicate {A = ℕ} 32 0
 previous-wide heads (suc t) h = ap length (previous-some heads t) ∙ length-part heads (t * 32) 32 (omega arith)
 
-pub head-wide : (heads : Bytes) (t : ℕ) (r : Roots) → t * 32 ≤ length heads → length (r .all) ≡ 32 → length (r .old) ≡ 32 → Digests (headWith heads t r)
-head-wide heads t r h a o = record { previous = previous-wide heads t h; all = a; old = o }
+pub head-wide : (heads : Bytes) (t : ℕ) (all old : Bytes) → t * 32 ≤ length heads → length all ≡ 32 → length old ≡ 32 → Digests (headWith heads t all old)
+head-wide heads t all old h a o = record { previous = previous-wide heads t h; all = a; old = o }
+
+-- the root of a tree has 32 bytes
+root-wide : (S : List Node) → length (rootDigest S) ≡ 32
+root-wide S = digest-wide (nodeString (top (root S))) .size
 
 -- ---- the whole
 
@@ -78,12 +90,24 @@ audit-parts : (x : Audit) → auditField .bytes x ≡ opening ++ (headField .byt
 unfolding view seq fixed be
 audit-parts x = refl
 
-module _ (heads : Bytes) (t : ℕ) (b : Roots) (A O : List Node) (step : Step heads t b) where
+-- laid at the front, and before what lies behind it
+front : (s u : Bytes) → pasted s 0 u ≡ u ++ drop (0 + length u) s
+unfolding pasted
+front s u = refl
+
+laid-before : (o x y : Bytes) (a : ℕ) → length x ≡ a → a + length y ≤ length o → pasted (pasted o a y) 0 x ≡ pasted o 0 (x ++ y)
+laid-before o x y a e h =
+    let z : 0 + length x ≡ a = omega arith in
+    let w : a + length y ≡ 0 + length (x ++ y) = omega (arith, length-append x y) in
+    front (pasted o a y) x ∙ ap (λ n. x ++ drop n (pasted o a y)) z ∙ ap (λ r. x ++ r) (pasted-behind o a y h ∙ ap (λ n. y ++ drop n o) w)
+    ∙ sym (append-assoc x y (drop (0 + length (x ++ y)) o)) ∙ sym (front o (x ++ y))
+
+module _ (heads : Bytes) (t : ℕ) (A O : List Node) (step : Step heads t) where
   abbrev first : Bytes
-  first = headField .bytes (headWith heads (t - 1) b)
+  first = headField .bytes (headWith heads (t - 1) (rootBefore t A) (rootBefore t O))
 
   abbrev second : Bytes
-  second = headField .bytes (headWith heads t (rootsOf A O))
+  second = headField .bytes (headWith heads t (rootDigest A) (rootDigest O))
 
   abbrev all : Bytes
   all = listField .bytes (belowRoot t (root A))
@@ -91,55 +115,82 @@ module _ (heads : Bytes) (t : ℕ) (b : Roots) (A O : List Node) (step : Step he
   abbrev old : Bytes
   old = listField .bytes (belowRoot t (root O))
 
-  parts : bytesWith heads t b A O ≡ opening ++ (first ++ (second ++ (all ++ old)))
-  unfolding bytesWith
-  parts = audit-parts (auditWith heads t b A O)
+  parts : bytesWith heads t A O ≡ opening ++ (first ++ newWith heads t A O)
+  unfolding bytesWith newWith
+  parts = audit-parts (auditWith heads t A O)
 
   first-size : length first ≡ 100
-  first-size = head-size (headWith heads (t - 1) b) (head-wide heads (t - 1) b (omega (arith, step .reach)) (step .all) (step .old))
+  first-size = head-size (headWith heads (t - 1) (rootBefore t A) (rootBefore t O)) (head-wide heads (t - 1) _ _ (omega (arith, step .reach)) (root-wide _) (root-wide _))
 
   second-size : length second ≡ 100
-  second-size = head-size (headWith heads t (rootsOf A O)) (head-wide heads t (rootsOf A O) (step .reach) (digest-wide (nodeString (top (root A))) .size) (digest-wide (nodeString (top (root O))) .size))
+  second-size = head-size (headWith heads t (rootDigest A) (rootDigest O)) (head-wide heads t _ _ (step .reach) (root-wide A) (root-wide O))
 
-  pub with-size : length (bytesWith heads t b A O) ≡ 206 + length all + length old
-  with-size = ap length parts ∙ omega (
-    arith,
-    length-append opening (first ++ (second ++ (all ++ old))),
-    length-append first (second ++ (all ++ old)),
-    length-append second (all ++ old),
-    length-append all old,
-    first-size,
-    second-size,
-  )
+  pub new-size : length (newWith heads t A O) ≡ 100 + length all + length old
+  unfolding newWith
+  new-size = omega (arith, length-append second (all ++ old), length-append all old, second-size)
 
-  -- the header, both heads and both lists, one behind the other
-  pub laid-all : (o p u v w z : Bytes) (next r : ℕ) → p ≡ pasted o 0 opening → u ≡ pasted p 6 first → v ≡ pasted u 106 second → Wrote v 206 all w next → Wrote w next old z r
-      → z ≡ pasted o 0 (bytesWith heads t b A O)
-  laid-all o p u v w z next r ep eu ev ew ez =
-      let x1 = opening ++ first in
-      let x2 = x1 ++ second in
-      let x3 = x2 ++ all in
-      let s1 : 106 ≡ 0 + length x1 = omega (arith, length-append opening first, first-size) in
-      let s2 : 206 ≡ 0 + length x2 = omega (arith, length-append x1 second, second-size) in
-      let s3 : next ≡ 0 + length x3 = omega (arith, length-append x2 all, ew .behind) in
-      let q1 = laid-next o p u opening first 0 6 (omega arith) ep refl eu in
-      let q2 = laid-next o u v x1 second 0 106 (omega arith) q1 s1 ev in
-      let q3 = laid-next o v w x2 all 0 206 (omega arith) q2 s2 (ew .laid) in
-      let q4 = laid-next o w z x3 old 0 next (omega arith) q3 s3 (ez .laid) in
-      let whole : x3 ++ old ≡ opening ++ (first ++ (second ++ (all ++ old))) = simp append-assoc refl in
-      q4 ∙ ap (pasted o 0) (whole ∙ sym parts)
+  pub with-size : length (bytesWith heads t A O) ≡ 106 + length (newWith heads t A O)
+  with-size = ap length parts ∙ omega (arith, length-append opening (first ++ newWith heads t A O), length-append first (newWith heads t A O), first-size)
+
+  -- the new head and both lists, one behind the other
+  pub new-laid : (o v w z : Bytes) (next r : ℕ) → 106 ≤ length o → v ≡ pasted o 106 second → Wrote v 206 all w next → Wrote w next old z r → NewLaid heads t A O o z next
+  unfolding newWith
+  new-laid o v w z next r h ev ew ez =
+      let s1 : 206 ≡ 106 + length second = omega (arith, second-size) in
+      let s2 : next ≡ 106 + length (second ++ all) = omega (arith, length-append second all, second-size, ew .behind) in
+      let q1 = laid-next o v w second all 106 206 h ev s1 (ew .laid) in
+      let q2 = laid-next o w z (second ++ all) old 106 next h q1 s2 (ez .laid) in
+      record { laid = q2 ∙ ap (pasted o 106) (append-assoc second all old); second = ew .behind }
+
+  -- and before them the header and the old head
+  pub laid-all : (o z p u : Bytes) (next : ℕ) → length (bytesWith heads t A O) ≤ length o → NewLaid heads t A O o z next → p ≡ pasted z 0 opening → u ≡ pasted p 6 first
+      → u ≡ pasted o 0 (bytesWith heads t A O)
+  laid-all o z p u next h l ep eu =
+      let x = opening ++ first in
+      let b = newWith heads t A O in
+      let e : length x ≡ 106 = omega (arith, length-append opening first, first-size) in
+      laid-next z p u opening first 0 6 (omega arith) ep refl eu ∙ ap (λ d. pasted d 0 x) (l .laid)
+      ∙ laid-before o x b 106 e (omega (arith, with-size)) ∙ ap (pasted o 0) (append-assoc opening first b ∙ sym parts)
+
+  -- what stands at either list's place
+  module _ (o z : Bytes) (next : ℕ) (h : 106 + length (newWith heads t A O) ≤ length o) (l : NewLaid heads t A O o z next) where
+    abbrev rest : Bytes
+    rest = drop (106 + length (newWith heads t A O)) o
+
+    at-all : drop 206 z ≡ all ++ (old ++ rest)
+    unfolding newWith
+    at-all =
+        sym (drop-drop 100 106 z) ∙ ap (drop 100) (ap (drop 106) (l .laid) ∙ pasted-behind o 106 (newWith heads t A O) h ∙ append-assoc second (all ++ old) rest)
+        ∙ drop-at second ((all ++ old) ++ rest) 100 second-size ∙ append-assoc all old rest
+
+    at-old : drop next z ≡ old ++ rest
+    at-old = let e : 206 + length all ≡ next = sym (l .second) in ap (λ n. drop n z) (sym e) ∙ sym (drop-drop (length all) 206 z) ∙ ap (drop (length all)) at-all ∙ drop-at all (old ++ rest) (length all) refl
+
+    pub all-stands : Bytewise z → LeafSet A → length (belowRoot t (root A)) ≤ auditMost → ListStands z 206 (belowRoot t (root A))
+    all-stands w set n = list-stands z 206 _ (old ++ rest) w (ap (listField .read) at-all ∙ list-lawful .reads _ _ (list-fit t A set n))
+
+    pub old-stands : Bytewise z → LeafSet O → length (belowRoot t (root O)) ≤ auditMost → ListStands z next (belowRoot t (root O))
+    old-stands w set n = list-stands z next _ rest w (ap (listField .read) at-old ∙ list-lawful .reads _ _ (list-fit t O set n))
+
+-- a list that stands is in order, and builds the old root
+module _ (z : Bytes) (at t : ℕ) (S : List Node) (set : LeafSet S) (l : ListStands z at (belowRoot t (root S))) where
+  pub stands-order : inOrder (recordsAt z (at + 4) (countAt z at)) ≡ true
+  stands-order = ap inOrder (l .records) ∙ list-order t S set
+
+  pub stands-root : rootDigest (olds (recordsAt z (at + 4) (countAt z at))) ≡ rootBefore t S
+  stands-root = ap (λ R. rootDigest (olds R)) (l .records)
 
 -- over leaves in bit order, by how many records the lists have
-pub rows-size : (heads : Bytes) (t : ℕ) (b : Roots) (n m : ℕ) (s u : Bytes) → Step heads t b → Sorted n s → Sorted m u
-    → length (bytesWith heads t b (leavesIn n s) (leavesIn m u)) ≡ 214 + (length (belowRoot t (root (leavesIn n s))) + length (belowRoot t (root (leavesIn m u)))) * 99
-rows-size heads t b n m s u step ws wu =
-    with-size heads t b (leavesIn n s) (leavesIn m u) step ∙ omega (arith, list-size t n s (omega (arith, ws .size)), list-size t m u (omega (arith, wu .size)))
+pub rows-size : (heads : Bytes) (t n m : ℕ) (s u : Bytes) → Step heads t → Sorted n s → Sorted m u
+    → length (bytesWith heads t (leavesIn n s) (leavesIn m u)) ≡ 214 + (length (belowRoot t (root (leavesIn n s))) + length (belowRoot t (root (leavesIn m u)))) * 99
+rows-size heads t n m s u step ws wu =
+    with-size heads t (leavesIn n s) (leavesIn m u) step
+    ∙ omega (arith, new-size heads t (leavesIn n s) (leavesIn m u) step, list-size t n s (omega (arith, ws .size)), list-size t m u (omega (arith, wu .size)))
 
 -- "audit records per tree | 0 to 16,384": there are no more records than leaves
 pub list-few : (t n : ℕ) (s slots : Bytes) (r : Sides) → Sorted n s → Stored n s slots r → n ≤ 16384 → length (belowRoot t (root (leavesIn n s))) ≤ 16384
 list-few t n s slots r w h k = omega (arith, root-few t n s (r .split) w (Root.parts n s slots r w h))
 
--- as the roots were found
-pub head-found : (heads : Bytes) (t : ℕ) (A O : List Node) (x y o : Bytes) (at : ℕ) → x ≡ rootDigest A → y ≡ rootDigest O
-    → pasted o at (headField .bytes (headWith heads t (record { all = x; old = y }))) ≡ pasted o at (headField .bytes (headWith heads t (rootsOf A O)))
-head-found heads t A O x y o at ex ey = λ i. pasted o at (headField .bytes (headWith heads t (record { all = ex i; old = ey i })))
+-- a head as its roots were found
+pub head-found : (heads : Bytes) (t : ℕ) (o : Bytes) (at : ℕ) {a b x y : Bytes} → a ≡ x → b ≡ y → pasted o at (headField .bytes (headWith heads t a b)) ≡ pasted o at (headField .bytes (headWith heads t x y))
+head-found heads t o at ex ey = λ i. pasted o at (headField .bytes (headWith heads t (ex i) (ey i)))

@@ -1,93 +1,76 @@
--- The trees of the epoch before and of the epoch, as they were grown: each test of 7, and the proof out of the same trees as they are
--- stored. Assumes nothing.
-use mathlib.Core.Path.{_≡_, refl, sym, ap, ap₂, _∙_}
-use mathlib.Core.Bool.{Bool, true, false, false≢true, _&&_}
-use mathlib.Core.List.{List, []}
-use Prim.Native.Nat.{ℕ, _-_, _*_}
+-- The trees of the epoch as they were grown: each test of 7, and the proof out of the same trees as they are stored. Assumes nothing.
+use mathlib.Core.Path.{_≡_, refl, sym, ap, ap₂, _∙_, subst}
+use mathlib.Core.Bool.{Bool, true, false, _&&_}
+use mathlib.Core.List.{List, flatMap}
+use Prim.Native.Nat.{ℕ, zero, suc, _-_, _*_, _≤_}
 use native.Mathlib.Omega.{arith}
 use lib.ListN.{length, take}
+use Rattle.paper.specs.Lists.{All}
 use Rattle.paper.specs.Numbers.{CLASH}
 use Rattle.paper.specs.Bytes.{Bytes}
-use Rattle.paper.specs.Strings.{Node, inner, nodeString}
+use Rattle.paper.specs.Strings.{Node}
 use Rattle.paper.specs.Labelling.{plain}
 use Rattle.paper.specs.Tree.{digest, top, root, rootDigest}
-use Rattle.paper.specs.Audit.{auditField}
+use Rattle.paper.specs.Audit.{olds, auditField}
 use Rattle.paper.specs.Level.{leavesIn}
-use Rattle.paper.specs.Table.{Record, previousHead, allAt, oldAt, distinct}
-use Rattle.paper.specs.Write.{Written, belowRoot}
+use Rattle.paper.specs.Table.{Record, byEpoch, allLeaves, oldLeaves, previousHead, allAt, oldAt, distinct}
+use Rattle.paper.specs.Write.{Written, belowRoot, auditProof}
 use Rattle.paper.specs.declared.State.{State}
 use Rattle.paper.specs.declared.WriteAnswer.the-variants as W
-use Rattle.paper.proofs.Fits.{digest-wide}
+use Rattle.paper.proofs.Lists.{all-in, in-all, and-both}
+use Rattle.paper.proofs.Arrow.{plain-sized}
+use Rattle.paper.proofs.Leaves.{RecordFits, record-fits, all-at-sized, old-at-sized}
+use Rattle.paper.proofs.Before.{Dated, clear-before, root-before, all-dated, old-dated}
+use Rattle.paper.proofs.Honest.{LeafSized}
 use Rattle.record.specs.Places.{recordsIn}
 use Rattle.gather.specs.Gathered.{leavesBy}
-use Rattle.tree.proofs.Slots.{stored-root}
 use Rattle.forest.specs.Grown.{Grows}
 use Rattle.forest.specs.declared.Grown.{Grown}
-use Rattle.write_audit.specs.Audited.{bothClear, headWith, bytesWith, weighed, clearAt, restAt, restFrom, Rooted, Sound, Step, Kept}
-use Rattle.write_audit.specs.declared.roots.Roots.{Roots}
-use Rattle.write_audit.specs.declared.roots.Before.{Before}
+use Rattle.write_audit.specs.Audited.{rootBefore, bytesWith, weighed, clearAt, restAt, Sound, Step, Kept}
 use Rattle.write_audit.proofs.Order.{heads-reach, clash}
-
--- ---- the roots of an epoch whose trees are not kept
-
-module _ (A O : List Node) (r : Before) (e : r .clear ≡ false) where
-  clashed : bothClear A O ≡ false → Rooted A O r
-  clashed h = record { is = e ∙ sym h; roots = λ q. absurd (false≢true (sym e ∙ q)) }
-
-  pub all-clashed : distinct A ≡ false → Rooted A O r
-  all-clashed h = clashed (ap (λ b. b && distinct O) h)
-
-  pub old-clashed : distinct A ≡ true → distinct O ≡ false → Rooted A O r
-  old-clashed h k = clashed (ap₂ (λ a b. a && b) h k)
-
-pub both-rooted : (A O : List Node) (x y : Bytes) → distinct A ≡ true → distinct O ≡ true → x ≡ rootDigest A → y ≡ rootDigest O → Rooted A O (record { clear = true; roots = record { all = x; old = y } })
-both-rooted A O x y h k ex ey = record { is = sym (ap₂ (λ a b. a && b) h k); roots = λ q. λ i. record { all = ex i; old = ey i } }
-
--- the root of a tree that was grown
-pub grown-root : (S : List Node) (row slots : Bytes) (g : Grown) → Grows S row slots g → g .clear ≡ true → digest (inner [] (g .sides .left) (g .sides .right)) ≡ rootDigest S
-grown-root S row slots g h e = let w = h .stands e in stored-root (g .leaves) _ _ (g .sides) (w .sorted) (w .stored) ∙ ap (λ x. digest (top x)) (sym (w .tree))
 
 -- ---- the epoch before
 
-module _ (records heads : Bytes) (state : State) (out : Bytes) (t : ℕ) where
+module _ (f : Record → List Node) (dated : (r : Record) → All (Dated (r .epoch)) (f r)) (rs : List Record) where
+  abbrev at : ℕ → List Node
+  at t = flatMap f (byEpoch t rs)
+
+  clear-then : (t : ℕ) → 1 ≤ t → distinct (at t) ≡ true → distinct (at (t - 1)) ≡ true
+  clear-then zero h e = absurd (omega arith)
+  clear-then (suc k) h e = let z : k ≡ suc k - 1 = omega arith in subst (λ n. distinct (at n) ≡ true) z (clear-before f dated k rs e)
+
+  root-then : (t : ℕ) → 1 ≤ t → All LeafSized (at t) → distinct (at t) ≡ true → rootDigest (at (t - 1)) ≡ rootBefore t (at t)
+  root-then zero h s e = absurd (omega arith)
+  root-then (suc k) h s e = let z : k ≡ suc k - 1 = omega arith in subst (λ n. rootDigest (at n) ≡ rootBefore (suc k) (at (suc k))) z (sym (root-before f dated k rs s e))
+
+-- a test that does not hold
+closed : (x y b : Bool) → b ≡ false → (x && (y && b)) ≡ false
+closed true true b e = e
+closed true false b e = refl
+closed false y b e = refl
+
+module _ (records heads : Bytes) (state : State) (out : Bytes) (t : ℕ) (s : Sound records heads state t) where
   abbrev rs : List Record
   rs = recordsIn (state .count) records
 
   abbrev clashes : Written
   clashes = record { answer = W.Refused CLASH state; out = out }
 
-  module _ (r : Before) (h : Rooted (leavesBy false (t - 1) rs) (leavesBy true (t - 1) rs) r) where
-    clear-is : (b : Bool) → (distinct (allAt plain (t - 1) rs) && distinct (oldAt plain (t - 1) rs)) ≡ b → clearAt t rs ≡ (b && bothClear (allAt plain t rs) (oldAt plain t rs))
-    clear-is b e = and-all (distinct (allAt plain (t - 1) rs)) (distinct (oldAt plain (t - 1) rs)) _ ∙ ap (λ x. x && bothClear (allAt plain t rs) (oldAt plain t rs)) e
-      where
-        and-all : (a b c : Bool) → (a && (b && c)) ≡ ((a && b) && c)
-        and-all true b c = refl
-        and-all false b c = refl
+  pub step : Step heads t
+  step = record { later = s .later; reach = heads-reach records heads state t s }
 
-    pub before-refused : r .clear ≡ false → restAt records heads state out t ≡ clashes
-    before-refused e = clash state out _ _ (clear-is false (sym (h .is) ∙ e))
-
-    pub rest-from : r .clear ≡ true → restAt records heads state out t ≡ restFrom records heads state out t (r .roots)
-    unfolding bytesWith
-    rest-from e = ap₂ (weighed state out) (clear-is true (sym (h .is) ∙ e)) (ap (λ b. bytesWith heads t b (allAt plain t rs) (oldAt plain t rs)) (sym (h .roots e)))
-
-    pub step : r .clear ≡ true → Sound records heads state t → Step heads t (r .roots)
-    step e s = record {
-      later = s .later;
-      reach = heads-reach records heads state t s;
-      all = ap (λ (x : Roots). length (x .all)) (h .roots e) ∙ digest-wide (nodeString (top (root (allAt plain (t - 1) rs)))) .size;
-      old = ap (λ (x : Roots). length (x .old)) (h .roots e) ∙ digest-wide (nodeString (top (root (oldAt plain (t - 1) rs)))) .size;
-    }
+  fits : All RecordFits rs
+  fits = in-all _ rs (λ r m. record-fits r (all-in _ rs (s .shaped .fits) r m))
 
   -- ---- the epoch
 
-  module _ (b : Roots) (a : Grown) (ra sa : Bytes) (ga : Grows (leavesBy false t rs) ra sa a) where
-    pub all-refused : a .clear ≡ false → restFrom records heads state out t b ≡ clashes
-    all-refused e = clash state out _ _ (ap (λ x. x && distinct (oldAt plain t rs)) (sym (ga .is) ∙ e))
+  module _ (a : Grown) (ra sa : Bytes) (ga : Grows (leavesBy false t rs) ra sa a) where
+    pub all-refused : a .clear ≡ false → restAt records heads state out t ≡ clashes
+    all-refused e = clash state out (clearAt t rs) (auditField .bytes (auditProof plain heads t rs)) (closed (distinct (allAt plain (t - 1) rs)) (distinct (oldAt plain (t - 1) rs)) _ (ap (λ x. x && distinct (oldAt plain t rs)) (sym (ga .is) ∙ e)))
 
     module _ (ea : a .clear ≡ true) (o : Grown) (ro so : Bytes) (go : Grows (leavesBy true t rs) ro so o) where
-      pub old-refused : o .clear ≡ false → restFrom records heads state out t b ≡ clashes
-      old-refused e = clash state out _ _ (ap₂ (λ x y. x && y) (sym (ga .is) ∙ ea) (sym (go .is) ∙ e))
+      pub old-refused : o .clear ≡ false → restAt records heads state out t ≡ clashes
+      old-refused e = clash state out (clearAt t rs) (auditField .bytes (auditProof plain heads t rs)) (closed (distinct (allAt plain (t - 1) rs)) (distinct (oldAt plain (t - 1) rs)) _ (ap₂ (λ x y. x && y) (sym (ga .is) ∙ ea) (sym (go .is) ∙ e)))
 
       module _ (eo : o .clear ≡ true) where
         pub kept : length ra ≡ 557056 → length ro ≡ 557056 → Kept (take (a .leaves * 68) ra) (take (a .leaves * 64) sa) a (take (o .leaves * 68) ro) (take (o .leaves * 64) so) o
@@ -100,15 +83,26 @@ module _ (records heads : Bytes) (state : State) (out : Bytes) (t : ℕ) where
           secondFew = omega (arith, go .within);
         }
 
-        -- the same trees
-        pub from-is : restFrom records heads state out t b ≡ weighed state out true (bytesWith heads t b (leavesIn (a .leaves) (take (a .leaves * 68) ra)) (leavesIn (o .leaves) (take (o .leaves * 68) ro)))
+        all-clear : distinct (allAt plain t rs) ≡ true
+        all-clear = sym (ga .is) ∙ ea
+
+        old-clear : distinct (oldAt plain t rs) ≡ true
+        old-clear = sym (go .is) ∙ eo
+
+        clear : clearAt t rs ≡ true
+        clear = and-both (clear-then (allLeaves plain) (all-dated plain) rs t (s .later) all-clear) (and-both (clear-then (oldLeaves plain) (old-dated plain) rs t (s .later) old-clear) (and-both all-clear old-clear))
+
+        -- the same trees, and those before them
+        pub rest-is : restAt records heads state out t ≡ weighed state out true (bytesWith heads t (leavesIn (a .leaves) (take (a .leaves * 68) ra)) (leavesIn (o .leaves) (take (o .leaves * 68) ro)))
         unfolding bytesWith
-        from-is =
+        rest-is =
             let x = ga .stands ea .tree in
             let y = go .stands eo .tree in
-            ap₂ (weighed state out) (ap₂ (λ x y. x && y) (sym (ga .is) ∙ ea) (sym (go .is) ∙ eo))
+            let u = root-then (allLeaves plain) (all-dated plain) rs t (s .later) (all-at-sized plain plain-sized t rs fits) all-clear ∙ ap (λ T. rootDigest (olds (belowRoot t T))) x in
+            let v = root-then (oldLeaves plain) (old-dated plain) rs t (s .later) (old-at-sized plain plain-sized t rs fits) old-clear ∙ ap (λ T. rootDigest (olds (belowRoot t T))) y in
+            ap₂ (weighed state out) clear
             (λ i. auditField .bytes (record {
-              before = headWith heads (t - 1) b;
+              before = record { epoch = t - 1; previous = previousHead heads (t - 1); all = u i; old = v i };
               after = record { epoch = t; previous = previousHead heads t; all = digest (top (x i)); old = digest (top (y i)) };
               all = belowRoot t (x i);
               old = belowRoot t (y i);

@@ -1,8 +1,8 @@
--- The audit writer: what remains of it as tests pass, and its proof out of the roots of the epoch before and the trees of the epoch.
+-- The audit writer: what remains of it as tests pass, and its proof out of the trees of the epoch alone.
 use mathlib.Core.Path.{_≡_}
-use mathlib.Core.Bool.{Bool, true, _&&_}
-use mathlib.Core.List.{List, [], _∷_}
-use Prim.Native.Nat.{ℕ, _-_, _*_, _≤_}
+use mathlib.Core.Bool.{Bool, _&&_}
+use mathlib.Core.List.{List, [], _∷_, _++_}
+use Prim.Native.Nat.{ℕ, _+_, _-_, _*_, _≤_}
 use lib.Dec.{leb}
 use lib.ListN.{length}
 use Rattle.paper.specs.Numbers.{wide, recordsMost, auditMost, CLASH, ROOM}
@@ -11,7 +11,8 @@ use Rattle.paper.specs.Strings.{Node, Head}
 use Rattle.paper.specs.Labelling.{plain}
 use Rattle.paper.specs.Tree.{root, rootDigest}
 use Rattle.paper.specs.Verdict.{test, verdict}
-use Rattle.paper.specs.Audit.{Audit, auditField}
+use Rattle.paper.specs.Fields.{headField}
+use Rattle.paper.specs.Audit.{Audit, olds, listField, auditField}
 use Rattle.paper.specs.Table.{Record, recordsWithin, headsWithin, previousHead, allAt, oldAt, distinct}
 use Rattle.paper.specs.Write.{Written, belowRoot, auditProof}
 use Rattle.paper.specs.declared.State.{State}
@@ -20,8 +21,6 @@ use Rattle.record.specs.Places.{recordsIn}
 use Rattle.table.specs.Shape.{Shaped}
 use Rattle.tree.specs.Stored.{Sorted, Stored}
 use Rattle.forest.specs.declared.Grown.{Grown}
-use Rattle.write_audit.specs.declared.roots.Roots.{Roots}
-use Rattle.write_audit.specs.declared.roots.Before.{Before}
 
 -- "1 INPUT", "or an audit writer's new epoch is 0"
 unfoldable pub inputGood : Bytes → Bytes → ℕ → Bool
@@ -31,24 +30,34 @@ inputGood records heads t = recordsWithin records && (headsWithin heads && leb 1
 abbrev pub bothClear : List Node → List Node → Bool
 bothClear A O = distinct A && distinct O
 
-abbrev pub rootsOf : List Node → List Node → Roots
-rootsOf A O = record { all = rootDigest A; old = rootDigest O }
-
--- the answer for an epoch whose trees are not kept
-pub record Rooted (A O : List Node) (r : Before) : Type 0 where
-  pub is : r .clear ≡ bothClear A O
-  pub roots : r .clear ≡ true → r .roots ≡ rootsOf A O
-
 -- the head of epoch t over two roots
-abbrev pub headWith : Bytes → ℕ → Roots → Head
-headWith heads t r = record { epoch = t; previous = previousHead heads t; all = r .all; old = r .old }
+abbrev pub headWith : Bytes → ℕ → Bytes → Bytes → Head
+headWith heads t all old = record { epoch = t; previous = previousHead heads t; all = all; old = old }
 
--- the step into epoch t: from trees with these roots to the trees over A and O
-abbrev pub auditWith : Bytes → ℕ → Roots → List Node → List Node → Audit
-auditWith heads t b A O = record { before = headWith heads (t - 1) b; after = headWith heads t (rootsOf A O); all = belowRoot t (root A); old = belowRoot t (root O) }
+-- the root of a tree before epoch t, out of its list
+abbrev pub rootBefore : ℕ → List Node → Bytes
+rootBefore t S = rootDigest (olds (belowRoot t (root S)))
 
-unfoldable pub bytesWith : Bytes → ℕ → Roots → List Node → List Node → Bytes
-bytesWith heads t b A O = auditField .bytes (auditWith heads t b A O)
+-- the step into epoch t, by the trees over A and O alone
+abbrev pub auditWith : Bytes → ℕ → List Node → List Node → Audit
+auditWith heads t A O = record {
+  before = headWith heads (t - 1) (rootBefore t A) (rootBefore t O);
+  after = headWith heads t (rootDigest A) (rootDigest O);
+  all = belowRoot t (root A);
+  old = belowRoot t (root O);
+}
+
+unfoldable pub bytesWith : Bytes → ℕ → List Node → List Node → Bytes
+bytesWith heads t A O = auditField .bytes (auditWith heads t A O)
+
+-- what stands behind the old head
+unfoldable pub newWith : Bytes → ℕ → List Node → List Node → Bytes
+newWith heads t A O = headField .bytes (headWith heads t (rootDigest A) (rootDigest O)) ++ (listField .bytes (belowRoot t (root A)) ++ listField .bytes (belowRoot t (root O)))
+
+-- it lies over o, and its second list at `next`
+pub record NewLaid (heads : Bytes) (t : ℕ) (A O : List Node) (o z : Bytes) (next : ℕ) : Type 0 where
+  pub laid : z ≡ pasted o 106 (newWith heads t A O)
+  pub second : next ≡ 206 + length (listField .bytes (belowRoot t (root A)))
 
 -- a proof is written if its test of 7 passes and it has room
 unfoldable pub weighed : State → Bytes → Bool → Bytes → Written
@@ -67,10 +76,6 @@ module _ (records heads : Bytes) (state : State) (out : Bytes) (t : ℕ) where
   abbrev pub restAt : Written
   restAt = weighed state out (clearAt t rs) (auditField .bytes (auditProof plain heads t rs))
 
-  -- where the trees of the epoch before are clear and have these roots
-  abbrev pub restFrom : Roots → Written
-  restFrom b = weighed state out (bothClear (allAt plain t rs) (oldAt plain t rs)) (bytesWith heads t b (allAt plain t rs) (oldAt plain t rs))
-
 -- the tests 1, 11 and 10 have passed
 pub record Sound (records heads : Bytes) (state : State) (t : ℕ) : Type 0 where
   pub shaped : Shaped records heads (state .count) (state .epoch)
@@ -78,12 +83,10 @@ pub record Sound (records heads : Bytes) (state : State) (t : ℕ) : Type 0 wher
   pub by : t ≤ state .epoch
   pub few : state .count ≤ recordsMost
 
--- the head table reaches to the epoch before, whose roots are digests
-pub record Step (heads : Bytes) (t : ℕ) (b : Roots) : Type 0 where
+-- the head table reaches to the epoch before
+pub record Step (heads : Bytes) (t : ℕ) : Type 0 where
   pub later : 1 ≤ t
   pub reach : t * wide ≤ length heads
-  pub all : length (b .all) ≡ wide
-  pub old : length (b .old) ≡ wide
 
 -- both trees are stored
 pub record Kept (all allSlots : Bytes) (a : Grown) (old oldSlots : Bytes) (o : Grown) : Type 0 where

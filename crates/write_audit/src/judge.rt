@@ -1,6 +1,5 @@
 // "8 ROOM": the lists are counted, and the proof is written if it has room.
 use crate::lay::lay;
-use crate::roots::Roots;
 use forest::Grown;
 use paper::State;
 use paper::WriteAnswer;
@@ -15,7 +14,6 @@ pub(crate) fn write_from(
     heads: &[u8],
     state: State,
     epoch: u32,
-    before: Roots,
     all: &[u8],
     all_slots: &[u8],
     a: Grown,
@@ -24,8 +22,8 @@ pub(crate) fn write_from(
     o: Grown,
     out: &mut [u8],
 ) -> WriteAnswer
-    requires { ⌜ Step (now heads) epoch before × Kept (now all) (now «all_slots») a (now old) (now «old_slots») o ⌝ }
-    ensures { λ r. ⌜ record { answer = r; out = now (out .exit) } ≡ weighed state (now (out .entry)) true (bytesWith (now (heads .entry)) epoch before (leavesIn (a .leaves) (now (all .entry))) (leavesIn (o .leaves) (now (old .entry)))) ⌝ }
+    requires { ⌜ Step (now heads) epoch × Kept (now all) (now «all_slots») a (now old) (now «old_slots») o ⌝ }
+    ensures { λ r. ⌜ record { answer = r; out = now (out .exit) } ≡ weighed state (now (out .entry)) true (bytesWith (now (heads .entry)) epoch (leavesIn (a .leaves) (now (all .entry))) (leavesIn (o .leaves) (now (old .entry)))) ⌝ }
 {
     let first = list_length(all, a.leaves, epoch);
     let second = list_length(old, o.leaves, epoch);
@@ -36,7 +34,6 @@ pub(crate) fn write_from(
     lay(
         heads,
         epoch,
-        before,
         all,
         all_slots,
         a,

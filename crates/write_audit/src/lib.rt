@@ -1,9 +1,7 @@
-// The writer of audit proofs: "Writers test 1, 11, 10, 7, 8." The step into an epoch needs the trees of the epoch before it, of which
-// only the roots are kept, and those of the epoch itself, which are stored until their lists are written. Each of the four trees is
-// grown once.
+// The writer of audit proofs: "Writers test 1, 11, 10, 7, 8." Of the four trees that the step into an epoch speaks of, the two of the
+// epoch itself are grown and stored until their lists are written. The roots of the epoch before come out of the lists.
 mod judge;
 mod lay;
-mod roots;
 mod trees;
 
 use bounds::heads_within;

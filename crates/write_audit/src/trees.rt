@@ -1,13 +1,11 @@
-// "two leaves of a needed tree share a label": the trees of the epoch before and those of the epoch.
+// "two leaves of a needed tree share a label": the trees of the epoch, stored. Those of the epoch before have no leaf that these have not,
+// so they need not be grown to be tested.
 use crate::judge::write_from;
-use crate::roots::Roots;
-use crate::roots::roots_of;
 use forest::grow;
 use paper::State;
 use paper::WriteAnswer;
 ghost use mathlib.Core.Path.{_≡_};
-ghost use lib.ListN.{length};
-ghost use Rattle.write_audit.specs.Audited.{Sound, Step, restAt, restFrom};
+ghost use Rattle.write_audit.specs.Audited.{Sound, restAt};
 
 // Room for the leaves of a tree, two for each of 4,096 records.
 fn row() -> [u8; 557056] {
@@ -19,22 +17,20 @@ fn slots() -> [u8; 524288] {
     [0u8; 524288]
 }
 
-// The trees of the epoch, stored: *all* in the lent row and slots, *old* in others.
-fn write_after(
+pub(crate) fn write_shaped(
     records: &[u8],
     heads: &[u8],
     state: State,
     epoch: u32,
-    before: Roots,
-    leaves: &mut [u8],
-    digests: &mut [u8],
     out: &mut [u8],
 ) -> WriteAnswer
-    requires { ⌜ Sound (now records) (now heads) state epoch × Step (now heads) epoch before × (length (now leaves) ≡ 557056) × (length (now digests) ≡ 524288) ⌝ }
-    ensures { λ r. ⌜ record { answer = r; out = now (out .exit) } ≡ restFrom (now (records .entry)) (now (heads .entry)) state (now (out .entry)) epoch before ⌝ }
+    requires { ⌜ Sound (now records) (now heads) state epoch ⌝ }
+    ensures { λ r. ⌜ record { answer = r; out = now (out .exit) } ≡ restAt (now (records .entry)) (now (heads .entry)) state (now (out .entry)) epoch ⌝ }
 {
     let count = state.count as usize;
-    let all = grow(records, count, epoch, false, leaves, digests);
+    let mut leaves = row();
+    let mut digests = slots();
+    let all = grow(records, count, epoch, false, &mut leaves, &mut digests);
     if !all.clear {
         return WriteAnswer::Refused { number: 7, state };
     }
@@ -52,43 +48,12 @@ fn write_after(
         heads,
         state,
         epoch,
-        before,
         &leaves[..a],
         &digests[..b],
         all,
         &replaced[..c],
         &beneath[..d],
         old,
-        out,
-    )
-}
-
-// The trees of the epoch before stand in the row and the slots that *all* has afterwards.
-pub(crate) fn write_shaped(
-    records: &[u8],
-    heads: &[u8],
-    state: State,
-    epoch: u32,
-    out: &mut [u8],
-) -> WriteAnswer
-    requires { ⌜ Sound (now records) (now heads) state epoch ⌝ }
-    ensures { λ r. ⌜ record { answer = r; out = now (out .exit) } ≡ restAt (now (records .entry)) (now (heads .entry)) state (now (out .entry)) epoch ⌝ }
-{
-    let count = state.count as usize;
-    let mut leaves = row();
-    let mut digests = slots();
-    let before = roots_of(records, count, epoch - 1, &mut leaves, &mut digests);
-    if !before.clear {
-        return WriteAnswer::Refused { number: 7, state };
-    }
-    write_after(
-        records,
-        heads,
-        state,
-        epoch,
-        before.roots,
-        &mut leaves,
-        &mut digests,
         out,
     )
 }

@@ -46,13 +46,13 @@ add-size-2 : tie.Need-add-size-2
 add-size-2 c = omega (arith, few c, few-2 c)
 
 abbrev proof : tie.After-list-length2 → Bytes
-proof c = let a = start c .args in bytesWith (a .heads .now) (a .epoch) (a .before) (leavesIn (a .a .leaves) (a .all .now)) (leavesIn (a .o .leaves) (a .old .now))
+proof c = let a = start c .args in bytesWith (a .heads .now) (a .epoch) (leavesIn (a .a .leaves) (a .all .now)) (leavesIn (a .o .leaves) (a .old .now))
 
 -- its length
 size : (c : tie.After-list-length2) → length (proof c) ≡ 214 + (c .before .list-length .result + c .list-length2 .result) * 99
 size c =
     let a = start c .args in
-    rows-size (a .heads .now) (a .epoch) (a .before) (a .a .leaves) (a .o .leaves) (a .all .now) (a .old .now) (start c .pre .0) (start c .pre .1 .first) (start c .pre .1 .second)
+    rows-size (a .heads .now) (a .epoch) (a .a .leaves) (a .o .leaves) (a .all .now) (a .old .now) (start c .pre .0) (start c .pre .1 .first) (start c .pre .1 .second)
     ∙ ap₂ (λ x y. 214 + (x + y) * 99) (sym (c .before .list-length .ensures)) (sym (c .list-length2 .ensures))
 
 returns : tie.Need-returns

@@ -5,7 +5,6 @@ use mathlib.Core.Path.{ap, _∙_}
 use Prim.Native.Nat.{_+_}
 use Rattle.paper.specs.Bytes.{pasted}
 use Rattle.write_audit.specs.Audited.{headWith}
-use Rattle.write_audit.specs.declared.roots.Roots.{Roots}
 use Rattle.write_audit.proofs.Bytes.{head-laid, head-wide}
 use Rattle.write_audit.proofs.lay.write_head.Statement.{statement}
 use Rattle.write_audit.proofs.lay.write_head.Tie as tie
@@ -49,8 +48,7 @@ returns c =
     let p = w .before .before in
     let s = p .before .before .before in
     let a = s .args in
-    let r : Roots = record { all = a .all .now; old = a .old .now } in
-    head-laid (headWith (a .heads .now) (a .epoch) r) (head-wide (a .heads .now) (a .epoch) r (s .pre .0) (omega arith) (omega arith)) (a .out .now) (w .write32 .last .0) (x .put .last .0) (y .put2 .last .0) (z .put3 .last .0) (a .at) (omega (arith, s .pre .1)) (w .write32 .ensures)
+    head-laid (headWith (a .heads .now) (a .epoch) (a .all .now) (a .old .now)) (head-wide (a .heads .now) (a .epoch) (a .all .now) (a .old .now) (s .pre .0) (omega arith) (omega arith)) (a .out .now) (w .write32 .last .0) (x .put .last .0) (y .put2 .last .0) (z .put3 .last .0) (a .at) (omega (arith, s .pre .1)) (w .write32 .ensures)
     (x .put .ensures ∙ ap (pasted (w .write32 .last .0) (a .at + 4)) (p .previous-head .ensures)) (y .put2 .ensures) (z .put3 .ensures)
 
 pub write-head-spec : {M : Type 1} → statement M

@@ -1,9 +1,11 @@
--- `write_audit::trees::write_shaped`: the roots of the epoch before, and then the trees of the epoch.
+-- `write_audit::trees::write_shaped`: both trees of the epoch are grown, and the proof is judged over them.
 use borrow.Author.Needs.{needs}
 use borrow.Author.Tests.{not-true, not-false}
+use native.Mathlib.Omega.{arith}
 use mathlib.Core.Path.{_≡_, sym, _∙_}
 use mathlib.Core.Bool.{true}
-use Rattle.write_audit.proofs.Same.{before-refused, rest-from, step}
+use lib.Seq.{length-take-le}
+use Rattle.write_audit.proofs.Same.{step, all-refused, old-refused, kept, rest-is}
 use Rattle.write_audit.proofs.trees.write_shaped.Statement.{statement}
 use Rattle.write_audit.proofs.trees.write_shaped.Tie as tie
 
@@ -16,56 +18,125 @@ row-requires c κs = search needs
 slots-requires : tie.Need-slots-requires
 slots-requires c κs = search needs
 
-sub-roots-of : tie.Need-sub-roots-of
-sub-roots-of c = search needs
+slice-aggregate-grow : tie.Need-slice-aggregate-grow
+slice-aggregate-grow c = search needs
 
-slice-aggregate-roots-of : tie.Need-slice-aggregate-roots-of
-slice-aggregate-roots-of c = search needs
+slice-aggregate-grow-2 : tie.Need-slice-aggregate-grow-2
+slice-aggregate-grow-2 c = search needs
 
-slice-aggregate-roots-of-2 : tie.Need-slice-aggregate-roots-of-2
-slice-aggregate-roots-of-2 c = search needs
+grow-requires : tie.Need-grow-requires
+grow-requires c κs = search needs
 
-roots-of-requires : tie.Need-roots-of-requires
-roots-of-requires c κs = search needs
-
-abbrev start : tie.After-roots-of → tie.Start
+abbrev start : tie.After-grow → tie.Start
 start c = c .before .before .before .before .before .before .before .before .before
 
 returns : tie.Need-returns
 returns c =
     let g = c .before .before .before .before in
-    let a = start g .args in
-    sym (before-refused (a .records .now) (a .heads .now) (a .state) (a .out .now) (a .epoch) (g .roots-of .result) (g .roots-of .ensures) (not-true (g .roots-of .result .clear) (c .if1 .taken)))
+    let s = start g in
+    let a = s .args in
+    sym (all-refused (a .records .now) (a .heads .now) (a .state) (a .out .now) (a .epoch) (s .pre) (g .grow .result) (g .grow .last .1 .1 .1 .1 .0) (g .grow .last .1 .1 .1 .1 .1 .0) (g .grow .ensures) (not-true (g .grow .result .clear) (c .if1 .taken)))
 
-abbrev rooted : tie.Else1 → tie.After-roots-of
-rooted c = c .before .before .before .before
+abbrev grown : tie.Else1 → tie.After-grow
+grown c = c .before .before .before .before
 
--- no two leaves of the trees before share a label
-alone : (c : tie.Else1) → rooted c .roots-of .result .clear ≡ true
-alone c = not-false (rooted c .roots-of .result .clear) (c .if1 .left)
+-- no two leaves of *all* share a label
+alone : (c : tie.Else1) → grown c .grow .result .clear ≡ true
+alone c = not-false (grown c .grow .result .clear) (c .if1 .left)
 
-slice-aggregate-write-after : tie.Need-slice-aggregate-write-after
-slice-aggregate-write-after c = search needs
+row-requires-2 : tie.Need-row-requires-2
+row-requires-2 c κs = search needs
 
-slice-aggregate-write-after-2 : tie.Need-slice-aggregate-write-after-2
-slice-aggregate-write-after-2 c = search needs
+slots-requires-2 : tie.Need-slots-requires-2
+slots-requires-2 c κs = search needs
 
-write-after-requires : tie.Need-write-after-requires
-write-after-requires c κs =
-    let e = c .before .before .before in
-    let g = rooted e in
-    let a = start g .args in
-    (start g .pre, step (a .records .now) (a .heads .now) (a .state) (a .out .now) (a .epoch) (g .roots-of .result) (g .roots-of .ensures) (alone e) (start g .pre), search needs, search needs)
+slice-aggregate-grow-3 : tie.Need-slice-aggregate-grow-3
+slice-aggregate-grow-3 c = search needs
+
+slice-aggregate-grow-4 : tie.Need-slice-aggregate-grow-4
+slice-aggregate-grow-4 c = search needs
+
+grow-requires-2 : tie.Need-grow-requires-2
+grow-requires-2 c κs = search needs
+
+abbrev between : tie.After-grow2 → tie.Else1
+between c = c .before .before .before .before .before
+
+returns-2 : tie.Need-returns-2
+returns-2 c =
+    let w = c .before .before .before .before in
+    let e = between w in
+    let g = grown e in
+    let s = start g in
+    let a = s .args in
+    sym (old-refused (a .records .now) (a .heads .now) (a .state) (a .out .now) (a .epoch) (s .pre) (g .grow .result) (g .grow .last .1 .1 .1 .1 .0) (g .grow .last .1 .1 .1 .1 .1 .0) (g .grow .ensures) (alone e) (w .grow2 .result) (w .grow2 .last .1 .1 .1 .1 .0) (w .grow2 .last .1 .1 .1 .1 .1 .0) (w .grow2 .ensures) (not-true (w .grow2 .result .clear) (c .if2 .taken)))
+
+abbrev second : tie.Else2 → tie.After-grow2
+second c = c .before .before .before .before
+
+abbrev first : tie.Else2 → tie.After-grow
+first c = grown (between (second c))
+
+mul-a : tie.Need-mul-a
+mul-a c = search needs
+
+mul-b : tie.Need-mul-b
+mul-b c = search needs
+
+mul-c : tie.Need-mul-c
+mul-c c = search needs
+
+mul-d : tie.Need-mul-d
+mul-d c = search needs
+
+array-share-prefix-leaves : tie.Need-array-share-prefix-leaves
+array-share-prefix-leaves c = let g = first (c .before .before .before .before) in omega (arith, g .grow .ensures .within, g .grow .kept .1 .1 .1 .1 .0)
+
+slice-aggregate-write-from : tie.Need-slice-aggregate-write-from
+slice-aggregate-write-from c = sym (length-take-le _ _ (first (c .before .before .before .before .before) .grow .ensures .within))
+
+array-share-prefix-digests : tie.Need-array-share-prefix-digests
+array-share-prefix-digests c = let g = first (c .before .before .before .before .before) in omega (arith, g .grow .ensures .reach, g .grow .kept .1 .1 .1 .1 .1 .0)
+
+slice-aggregate-write-from-2 : tie.Need-slice-aggregate-write-from-2
+slice-aggregate-write-from-2 c = sym (length-take-le _ _ (first (c .before .before .before .before .before .before) .grow .ensures .reach))
+
+array-share-prefix-replaced : tie.Need-array-share-prefix-replaced
+array-share-prefix-replaced c = search needs
+
+slice-aggregate-write-from-3 : tie.Need-slice-aggregate-write-from-3
+slice-aggregate-write-from-3 c = sym (length-take-le _ _ (second (c .before .before .before .before .before .before .before) .grow2 .ensures .within))
+
+array-share-prefix-beneath : tie.Need-array-share-prefix-beneath
+array-share-prefix-beneath c = search needs
+
+slice-aggregate-write-from-4 : tie.Need-slice-aggregate-write-from-4
+slice-aggregate-write-from-4 c = sym (length-take-le _ _ (second (c .before .before .before .before .before .before .before .before) .grow2 .ensures .reach))
+
+write-from-requires : tie.Need-write-from-requires
+write-from-requires c κs =
+    let f = c .before .before .before .before .before .before .before .before .before in
+    let w = second f in
+    let e = between w in
+    let g = grown e in
+    let s = start g in
+    let a = s .args in (
+      step (a .records .now) (a .heads .now) (a .state) (a .out .now) (a .epoch) (s .pre),
+      kept (a .records .now) (a .heads .now) (a .state) (a .out .now) (a .epoch) (s .pre) (g .grow .result) (g .grow .last .1 .1 .1 .1 .0) (g .grow .last .1 .1 .1 .1 .1 .0) (g .grow .ensures) (alone e) (w .grow2 .result) (w .grow2 .last .1 .1 .1 .1 .0) (w .grow2 .last .1 .1 .1 .1 .1 .0) (w .grow2 .ensures) (not-false (w .grow2 .result .clear) (f .if2 .left)) (omega (arith, g .grow .kept .1 .1 .1 .1 .0)) (omega (arith, w .grow2 .kept .1 .1 .1 .1 .0)),
+    )
 
 same-length : tie.Need-same-length
 same-length c = search needs
 
-returns-2 : tie.Need-returns-2
-returns-2 c =
-    let e = c .before .before .before .before .before .before .before .before in
-    let g = rooted e in
-    let a = start g .args in
-    c .before .before .before .before .write-after .ensures ∙ sym (rest-from (a .records .now) (a .heads .now) (a .state) (a .out .now) (a .epoch) (g .roots-of .result) (g .roots-of .ensures) (alone e))
+returns-3 : tie.Need-returns-3
+returns-3 c =
+    let f = c .before .before .before .before .before .before .before .before .before .before .before .before in
+    let w = second f in
+    let e = between w in
+    let g = grown e in
+    let s = start g in
+    let a = s .args in
+    c .before .before .write-from .ensures ∙ sym (rest-is (a .records .now) (a .heads .now) (a .state) (a .out .now) (a .epoch) (s .pre) (g .grow .result) (g .grow .last .1 .1 .1 .1 .0) (g .grow .last .1 .1 .1 .1 .1 .0) (g .grow .ensures) (alone e) (w .grow2 .result) (w .grow2 .last .1 .1 .1 .1 .0) (w .grow2 .last .1 .1 .1 .1 .1 .0) (w .grow2 .ensures) (not-false (w .grow2 .result .clear) (f .if2 .left)))
 
 pub write-shaped-spec : {M : Type 1} → statement M
 write-shaped-spec =
@@ -74,13 +145,28 @@ write-shaped-spec =
     cast-count
     row-requires
     slots-requires
-    sub-roots-of
-    slice-aggregate-roots-of
-    slice-aggregate-roots-of-2
-    roots-of-requires
+    slice-aggregate-grow
+    slice-aggregate-grow-2
+    grow-requires
     returns
-    slice-aggregate-write-after
-    slice-aggregate-write-after-2
-    write-after-requires
+    row-requires-2
+    slots-requires-2
+    slice-aggregate-grow-3
+    slice-aggregate-grow-4
+    grow-requires-2
+    returns-2
+    mul-a
+    mul-b
+    mul-c
+    mul-d
+    array-share-prefix-leaves
+    slice-aggregate-write-from
+    array-share-prefix-digests
+    slice-aggregate-write-from-2
+    array-share-prefix-replaced
+    slice-aggregate-write-from-3
+    array-share-prefix-beneath
+    slice-aggregate-write-from-4
+    write-from-requires
     same-length
-    returns-2)
+    returns-3)
