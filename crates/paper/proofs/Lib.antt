@@ -39,6 +39,7 @@ pub mod Published
 pub mod Unread
 pub mod Changes
 pub mod HeadChain
+pub mod Standing
 pub mod Demand2
 pub mod Private
 pub mod Arrow

@@ -1,5 +1,5 @@
 -- Audits from what publishing left: each step is accepted between the heads of its epochs. Assumes nothing.
-use mathlib.Core.Path.{_≡_, sym, ap, _∙_, subst}
+use mathlib.Core.Path.{_≡_, ap, _∙_, subst}
 use mathlib.Core.Bool.{_&&_}
 use mathlib.Core.List.{List}
 use Prim.Native.Nat.{ℕ, zero, suc, _-_, _≤_}
@@ -10,16 +10,17 @@ use borrow.Author.Tests.{leb-true, le-leb}
 use Rattle.paper.specs.Bytes.{Bytes, pasted}
 use Rattle.paper.specs.Labelling.{Labelling, Sized}
 use Rattle.paper.specs.Audit.{auditField, auditStrings, checkAudit}
-use Rattle.paper.specs.Table.{Record, headAt, allAt, oldAt, headDigest, distinct}
+use Rattle.paper.specs.Table.{Record, headAt, allAt, oldAt, distinct}
 use Rattle.paper.specs.Write.{auditProof, writeAudit}
 use Rattle.paper.specs.Left.{Left}
 use Rattle.paper.specs.declared.State.{State}
 use Rattle.paper.specs.declared.WriteAnswer.the-variants as W
 use Rattle.paper.specs.declared.AuditAnswer.the-variants as A
 use Rattle.paper.proofs.Lists.{and-both}
-use Rattle.paper.proofs.AuditComplete.{audit-complete}
+use Rattle.paper.proofs.Demand2.{audit-accepted}
 use Rattle.promises.specs.Own.{directory, auditAnswer}
-use Rattle.promises.proofs.Standing.{Standing, left-stands}
+use Rattle.paper.proofs.Standing.{Standing}
+use Rattle.promises.proofs.Standing.{left-stands}
 use Rattle.promises.proofs.Writers.{answers, Wrote, answered}
 
 module _ (lab : Labelling) (sized : Sized lab) {records heads : Bytes} {state : State} (left : Left lab records heads state) where
@@ -31,23 +32,11 @@ module _ (lab : Labelling) (sized : Sized lab) {records heads : Bytes} {state : 
 
   -- ---- accepted
 
-  -- the step into the epoch after t
-  step : (t : ℕ) → suc t ≤ state .epoch
-      → checkAudit (headAt heads t) (headAt heads (suc t)) (auditField .bytes (auditProof lab heads (suc t) rs)) ≡ A.Accepted t (suc t) (length (auditStrings (auditProof lab heads (suc t) rs)))
-  step t k =
-      let j : t ≤ state .epoch = omega arith in
-      let b = auditField .bytes (auditProof lab heads (suc t) rs) in
-      let a = A.Accepted t (suc t) (length (auditStrings (auditProof lab heads (suc t) rs))) in
-      subst (λ d. checkAudit d (headAt heads (suc t)) b ≡ a) (sym (stands .head-is t j))
-      (subst (λ d. checkAudit (headDigest lab heads t rs) d b ≡ a) (sym (stands .head-is (suc t) k))
-      (audit-complete lab sized (state .epoch) t rs (stands .fits) (stands .few) (stands .shape) heads (omega (arith, stands .epochs)) (stands .previous t j) (stands .head-is t j)
-      (stands .all-distinct (suc t) k) (stands .old-distinct (suc t) k)))
-
   accepted : (t : ℕ) → 1 ≤ t → t ≤ state .epoch → checkAudit (headAt heads (t - 1)) (headAt heads t) (auditField .bytes (auditProof lab heads t rs)) ≡ auditAnswer lab t rs heads
   accepted zero l k = absurd (omega arith)
   accepted (suc t) l k =
       let e : t ≡ suc t - 1 = omega arith in
-      subst (λ o. checkAudit (headAt heads o) (headAt heads (suc t)) (auditField .bytes (auditProof lab heads (suc t) rs)) ≡ A.Accepted o (suc t) (length (auditStrings (auditProof lab heads (suc t) rs)))) e (step t k)
+      subst (λ o. checkAudit (headAt heads o) (headAt heads (suc t)) (auditField .bytes (auditProof lab heads (suc t) rs)) ≡ A.Accepted o (suc t) (length (auditStrings (auditProof lab heads (suc t) rs)))) e (audit-accepted lab sized stands t k)
 
   module _ (t : ℕ) (out : Bytes) where
     -- ---- what the writer wrote

@@ -33,9 +33,11 @@ use Rattle.paper.proofs.Fits.{digest-wide, ProofFits}
 use Rattle.paper.proofs.Fit.{head-fit, item-fit, proof-fit}
 use Rattle.paper.proofs.Records.{versions-run, runs-at}
 use Rattle.paper.proofs.Leaves.{RecordFits, own-in, version-leaf}
-use Rattle.paper.proofs.Complete.{Clear, clear, shows-leaf, paths-fit, history-complete}
+use Rattle.paper.proofs.Complete.{Clear, clear, shows-leaf, paths-fit}
+use Rattle.paper.proofs.Demand2.{history-accepted}
 use Rattle.promises.specs.Own.{directory, tells, ownHistory, historyAnswer}
-use Rattle.promises.proofs.Standing.{Standing, left-stands}
+use Rattle.paper.proofs.Standing.{Standing}
+use Rattle.promises.proofs.Standing.{left-stands}
 use Rattle.promises.proofs.Writers.{answers, Wrote, answered}
 
 -- two lists by their elements: one counted from a on, the other as it stands
@@ -68,9 +70,7 @@ module _ (lab : Labelling) (sized : Sized lab) {records heads : Bytes} {state : 
   accepted : t ≤ state .epoch → isName name ≡ true → unclashed lab name t rs plan ≡ true → checkHistory lab (headAt heads t) name (historyField .bytes proof) ≡ historyAnswer lab name t rs heads
   unfolding ownHistory
   accepted k n u =
-      subst (λ d. checkHistory lab d name (historyField .bytes proof) ≡ historyAnswer lab name t rs heads) (sym (stands .head-is t k))
-      (history-complete lab sized name t rs (stands .fits) (state .epoch) (stands .shape) heads (omega (arith, stands .epochs)) (stands .previous t k) n u
-      ∙ ap (λ v. H.Accepted v t (length (historyStrings lab name proof))) (sym (length-map mine tells)))
+      history-accepted lab sized stands name t k n u ∙ ap (λ v. H.Accepted v t (length (historyStrings lab name proof))) (sym (length-map mine tells))
 
   -- ---- what it tells
 

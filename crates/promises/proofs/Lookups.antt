@@ -23,10 +23,11 @@ use Rattle.paper.proofs.Strings.{HeadSized}
 use Rattle.paper.proofs.Fits.{head-fits, digest-wide}
 use Rattle.paper.proofs.Fit.{head-fit}
 use Rattle.paper.proofs.Leaves.{RecordFits, own-in}
-use Rattle.paper.proofs.Complete.{lookup-complete}
+use Rattle.paper.proofs.Demand2.{lookup-accepted}
 use Rattle.paper.proofs.KeyPart.{key-accepted}
 use Rattle.promises.specs.Own.{directory, tells, ownHistory, ownLookup, lookupAnswer}
-use Rattle.promises.proofs.Standing.{Standing, left-stands}
+use Rattle.paper.proofs.Standing.{Standing}
+use Rattle.promises.proofs.Standing.{left-stands}
 use Rattle.promises.proofs.Writers.{answers, Wrote, answered}
 
 -- ---- the last of a name's records
@@ -71,9 +72,7 @@ module _ (lab : Labelling) (sized : Sized lab) {records heads : Bytes} {state : 
   accepted : t ≤ state .epoch → isName name ≡ true → unclashed lab name t rs asked ≡ true → checkLookup lab (headAt heads t) name (lookupField .bytes proof) ≡ lookupAnswer lab name t rs heads
   unfolding ownLookup ownHistory
   accepted k n u =
-      subst (λ d. checkLookup lab d name (lookupField .bytes proof) ≡ lookupAnswer lab name t rs heads) (sym (stands .head-is t k))
-      (lookup-complete lab sized name t rs (stands .fits) (state .epoch) (stands .shape) heads (omega (arith, stands .epochs)) (stands .previous t k) n u
-      ∙ ap (λ v. lookupGives lab name v t (length (lookupStrings lab name proof))) (last-version mine))
+      lookup-accepted lab sized stands name t k n u ∙ ap (λ v. lookupGives lab name v t (length (lookupStrings lab name proof))) (last-version mine)
 
   head-sized : t ≤ state .epoch → HeadSized (proof .head)
   head-sized k = head-fits _ (head-fit _ (omega (arith, stands .epochs)) (stands .previous t k) (digest-wide _) (digest-wide _))

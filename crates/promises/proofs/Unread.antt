@@ -1,7 +1,7 @@
 -- What a writer answers and leaves depends on nothing of the tables but their lengths, the counted records, and the previous heads of the
 -- epochs whose heads it opens. Stated once over the labelling. Assumes nothing.
 use mathlib.Core.Path.{_≡_, refl, ap}
-use mathlib.Core.Bool.{Bool, _&&_}
+use mathlib.Core.Bool.{Bool}
 use mathlib.Core.List.{List}
 use Prim.Native.Nat.{ℕ, _-_}
 use Rattle.paper.specs.Bytes.{Bytes}

@@ -19,7 +19,7 @@ use Rattle.paper.specs.declared.State.{State}
 use Rattle.paper.specs.declared.WriteAnswer.the-variants as W
 use Rattle.paper.proofs.Lists.{and-right, and-both}
 use Rattle.paper.proofs.Verdicts.{verdict-all, verdict-cases}
-use Rattle.promises.proofs.Standing.{Standing}
+use Rattle.paper.proofs.Standing.{Standing}
 
 module _ (lab : Labelling) (records heads : Bytes) (state : State) (rs : List Record) (out : Bytes) (input : Bool) (t : ℕ) (clear : List Record → Bool) (proof : List Record → Bytes) where
   abbrev left : Written

@@ -10,7 +10,7 @@ use Rattle.paper.specs.Numbers.{CLASH}
 use Rattle.paper.specs.Bytes.{Bytes}
 use Rattle.paper.specs.Strings.{Node}
 use Rattle.paper.specs.Labelling.{plain}
-use Rattle.paper.specs.Tree.{digest, top, root, rootDigest}
+use Rattle.paper.specs.Tree.{digest, top, rootDigest}
 use Rattle.paper.specs.Audit.{olds, auditField}
 use Rattle.paper.specs.Level.{leavesIn}
 use Rattle.paper.specs.Table.{Record, byEpoch, allLeaves, oldLeaves, previousHead, allAt, oldAt, distinct}
