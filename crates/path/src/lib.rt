@@ -50,7 +50,7 @@ pub struct Taken {
     pub commitment: [u8; 32],
 }
 
-// The work, on slice and place.
+// What `take` answers, worked out on slice and place.
 fn taken_at(s: &[u8], at: usize, label: [u8; 32], root: [u8; 32]) -> Taken
     ensures { λ r. ⌜ r ≡ taken (now (s .entry)) at label root ⌝ }
 {

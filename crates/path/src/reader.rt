@@ -1,5 +1,5 @@
-// The proof as it is read: the lent bytes, and the place up to which they have been read. What is read is left to a function on
-// slice and place.
+// The proof as it is read: the lent bytes, and the place up to which they have been read. A function over it only takes it apart:
+// the work is done on slice and place.
 use crate::Taken;
 use crate::taken_at;
 ghost use mathlib.Core.Path.{_≡_};
