@@ -7,3 +7,4 @@ pub mod Reading
 pub mod Climb
 pub mod Parting
 pub mod Found
+pub mod Wide

@@ -3,10 +3,13 @@
 mod absence;
 mod ends;
 mod form;
+mod reader;
 mod root;
 
 use absence::shows;
 pub use form::parse;
+use reader::next_path;
+use reader::open;
 use root::root_of;
 use words::same;
 ghost use mathlib.Core.Path.{_≡_};
@@ -47,8 +50,8 @@ pub struct Taken {
     pub commitment: [u8; 32],
 }
 
-// The path that stands in `s` from `at` on, taken for `label` in the tree with that root.
-pub fn take(s: &[u8], at: usize, label: [u8; 32], root: [u8; 32]) -> Taken
+// What `take` answers, worked out on slice and place.
+fn taken_at(s: &[u8], at: usize, label: [u8; 32], root: [u8; 32]) -> Taken
     ensures { λ r. ⌜ r ≡ taken (now (s .entry)) at label root ⌝ }
 {
     let path = parse(s, at);
@@ -74,4 +77,11 @@ pub fn take(s: &[u8], at: usize, label: [u8; 32], root: [u8; 32]) -> Taken
         shows: shows(s, label, path),
         commitment,
     }
+}
+
+// The path that stands in `s` from `at` on, taken for `label` in the tree with that root.
+pub fn take(s: &[u8], at: usize, label: [u8; 32], root: [u8; 32]) -> Taken
+    ensures { λ r. ⌜ r ≡ taken (now (s .entry)) at label root ⌝ }
+{
+    next_path(open(s, at), label, root)
 }
