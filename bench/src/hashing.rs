@@ -67,8 +67,24 @@ fn leaves(d: &Directory) -> (usize, usize) {
     versions.fold((0, 0), |(all, old), v| (all + 1 + v.is_power_of_two() as usize, old + (v > 1) as usize))
 }
 
+/// Both trees of an epoch, once, and so many nodes more.
+fn of_trees_and(d: &Directory, nodes: usize) -> Strings {
+    let (all, old) = leaves(d);
+    of(&[(all + old, 14), (2 * (all + old) + nodes, NODE), (d.state.count as usize, 65)])
+}
+
 /// Both trees of an epoch, once.
 pub fn of_trees(d: &Directory) -> Strings {
-    let (all, old) = leaves(d);
-    of(&[(all + old, 14), (2 * (all + old), NODE), (d.state.count as usize, 65)])
+    of_trees_and(d, 0)
+}
+
+/// A written audit: both trees, and the old roots out of the lists. A checker hashes these too, besides two heads and the new roots, for which n
+/// records that stand on both sides of the root give 2n - 1 nodes.
+pub fn of_audit(d: &Directory) -> Strings {
+    let (old, new, proof) = d.audit();
+    let digests = noonhaggle::check_audit(&old, &new, &proof).expect("accepted").digests as usize;
+    let count = |at: usize| u32::from_be_bytes(proof[at..at + 4].try_into().expect("four bytes")) as usize;
+    let first = count(206);
+    let second = count(210 + 99 * first);
+    of_trees_and(d, digests - 2 - (2 * first - 1) - (2 * second - 1))
 }

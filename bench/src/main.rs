@@ -88,10 +88,10 @@ fn publishing() {
     bar("  growth with the records before", &taken);
 }
 
-/// A writer of either implementation, over a directory.
-fn written(what: &str, d: &Directory, ours: impl Fn(&mut [u8]) -> usize, theirs: impl Fn(&mut [u8]) -> usize) -> f64 {
+/// A writer of either implementation, and what ours hashes.
+fn written(what: &str, strings: &Strings, ours: impl Fn(&mut [u8]) -> usize, theirs: impl Fn(&mut [u8]) -> usize) -> f64 {
     let (mut out, mut out2) = (vec![0; 1 << 20], vec![0; 1 << 20]);
-    let (c, _) = line(what, || ours(&mut out), || theirs(&mut out2), &hashing::of_trees(d));
+    let (c, _) = line(what, || ours(&mut out), || theirs(&mut out2), strings);
     c.ours
 }
 
@@ -103,21 +103,22 @@ fn writing() {
         let (r, h, s, t) = (&d.records, &d.heads, d.state, d.state.epoch);
         let o = independent::State { count: s.count, epoch: s.epoch };
         let name = b"name-00007";
+        let trees = hashing::of_trees(&d);
         let a = written(
             &format!("a lookup, {} records", s.count),
-            &d,
+            &trees,
             |out| noonhaggle::write_lookup(r, h, s, name, t, out).expect("written"),
             |out| independent::write_lookup(r, h, o, name, t, out).expect("written"),
         );
         written(
             &format!("a history, {} records", s.count),
-            &d,
+            &trees,
             |out| noonhaggle::write_history(r, h, s, name, t, out).expect("written"),
             |out| independent::write_history(r, h, o, name, t, out).expect("written"),
         );
         written(
             &format!("the last audit, {} records", s.count),
-            &d,
+            &hashing::of_audit(&d),
             |out| noonhaggle::write_audit(r, h, s, t, out).expect("written"),
             |out| independent::write_audit(r, h, o, t, out).expect("written"),
         );
