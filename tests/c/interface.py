@@ -1,7 +1,8 @@
 #!/usr/bin/env python3
 """Puts requests through C programs that are linked with the archive (tests/c/run builds them), and holds what they print to what other
 implementations say: to tests/c/driver.c the driver's own sample, as far as the archive has its calls; to tests/c/check.c the checking
-program's cases, and the accepted key. `kit` runs the programs that the kit's compiler made, `native` those of the machine's own."""
+program's cases, and the accepted key. `kit` runs the programs that the kit's compiler made, `native` those of the machine's own, and
+`aarch64` those for Arm, under an emulator."""
 import os
 import subprocess
 import sys
@@ -17,6 +18,8 @@ CALLS = {1, 4, 5, 6, 10, 11, 12, 13, 14}
 def command(name):
     if sys.argv[1:] == ["native"]:
         return [os.path.join(driver.ROOT, "target", "c", "native", name)]
+    if sys.argv[1:] == ["aarch64"]:
+        return ["qemu-aarch64", os.path.join(driver.ROOT, "target", "c", "aarch64", name)]
     return driver.command()[:-1] + [os.path.join(driver.ROOT, "target", "c", name)]
 
 
