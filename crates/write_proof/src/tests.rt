@@ -1,4 +1,4 @@
-// "Writers test 1, 11, 10" before any tree: the name is what these two ask to be good.
+// The first three tests, of which "1 INPUT" asks for a name, and then the trees.
 use crate::trees::write_shaped;
 use names::is_name;
 use paper::State;
