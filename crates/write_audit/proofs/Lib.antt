@@ -1,4 +1,3 @@
 -- Laws of writing audit proofs.
-pub mod Order
 pub mod Bytes
 pub mod Same

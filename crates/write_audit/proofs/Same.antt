@@ -26,8 +26,10 @@ use Rattle.record.specs.Places.{recordsIn}
 use Rattle.gather.specs.Gathered.{leavesBy}
 use Rattle.forest.specs.Grown.{Grows}
 use Rattle.forest.specs.declared.Grown.{Grown}
-use Rattle.write_audit.specs.Audited.{rootBefore, bytesWith, weighed, clearAt, restAt, Sound, Step, Kept}
-use Rattle.write_audit.proofs.Order.{heads-reach, clash}
+use Rattle.tested.specs.Tested.{weighed, Sound}
+use Rattle.tested.proofs.First.{heads-reach}
+use Rattle.tested.proofs.Weighed.{clash}
+use Rattle.write_audit.specs.Audited.{rootBefore, bytesWith, clearAt, restAt, Step, Kept}
 
 -- ---- the epoch before
 
@@ -49,7 +51,7 @@ closed true true b e = e
 closed true false b e = refl
 closed false y b e = refl
 
-module _ (records heads : Bytes) (state : State) (out : Bytes) (t : ℕ) (s : Sound records heads state t) where
+module _ (records heads : Bytes) (state : State) (out : Bytes) (t : ℕ) (s : Sound records heads state t) (later : 1 ≤ t) where
   abbrev rs : List Record
   rs = recordsIn (state .count) records
 
@@ -57,7 +59,7 @@ module _ (records heads : Bytes) (state : State) (out : Bytes) (t : ℕ) (s : So
   clashes = record { answer = W.Refused CLASH state; out = out }
 
   pub step : Step heads t
-  step = record { later = s .later; reach = heads-reach records heads state t s }
+  step = record { later = later; reach = heads-reach records heads state t s }
 
   fits : All RecordFits rs
   fits = in-all _ rs (λ r m. record-fits r (all-in _ rs (s .shaped .fits) r m))
@@ -90,7 +92,7 @@ module _ (records heads : Bytes) (state : State) (out : Bytes) (t : ℕ) (s : So
         old-clear = sym (go .is) ∙ eo
 
         clear : clearAt t rs ≡ true
-        clear = and-both (clear-then (allLeaves plain) (all-dated plain) rs t (s .later) all-clear) (and-both (clear-then (oldLeaves plain) (old-dated plain) rs t (s .later) old-clear) (and-both all-clear old-clear))
+        clear = and-both (clear-then (allLeaves plain) (all-dated plain) rs t later all-clear) (and-both (clear-then (oldLeaves plain) (old-dated plain) rs t later old-clear) (and-both all-clear old-clear))
 
         -- the same trees, and those before them
         pub rest-is : restAt records heads state out t ≡ weighed state out true (bytesWith heads t (leavesIn (a .leaves) (take (a .leaves * 68) ra)) (leavesIn (o .leaves) (take (o .leaves * 68) ro)))
@@ -98,8 +100,8 @@ module _ (records heads : Bytes) (state : State) (out : Bytes) (t : ℕ) (s : So
         rest-is =
             let x = ga .stands ea .tree in
             let y = go .stands eo .tree in
-            let u = root-then (allLeaves plain) (all-dated plain) rs t (s .later) (all-at-sized plain plain-sized t rs fits) all-clear ∙ ap (λ T. rootDigest (olds (belowRoot t T))) x in
-            let v = root-then (oldLeaves plain) (old-dated plain) rs t (s .later) (old-at-sized plain plain-sized t rs fits) old-clear ∙ ap (λ T. rootDigest (olds (belowRoot t T))) y in
+            let u = root-then (allLeaves plain) (all-dated plain) rs t later (all-at-sized plain plain-sized t rs fits) all-clear ∙ ap (λ T. rootDigest (olds (belowRoot t T))) x in
+            let v = root-then (oldLeaves plain) (old-dated plain) rs t later (old-at-sized plain plain-sized t rs fits) old-clear ∙ ap (λ T. rootDigest (olds (belowRoot t T))) y in
             ap₂ (weighed state out) clear
             (λ i. auditField .bytes (record {
               before = record { epoch = t - 1; previous = previousHead heads (t - 1); all = u i; old = v i };

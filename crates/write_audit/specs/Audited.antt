@@ -1,30 +1,23 @@
 -- The audit writer: what remains of it as tests pass, and its proof out of the trees of the epoch alone.
 use mathlib.Core.Path.{_≡_}
 use mathlib.Core.Bool.{Bool, _&&_}
-use mathlib.Core.List.{List, [], _∷_, _++_}
+use mathlib.Core.List.{List, _++_}
 use Prim.Native.Nat.{ℕ, _+_, _-_, _*_, _≤_}
-use lib.Dec.{leb}
 use lib.ListN.{length}
-use Rattle.paper.specs.Numbers.{wide, recordsMost, auditMost, CLASH, ROOM}
+use Rattle.paper.specs.Numbers.{wide, auditMost}
 use Rattle.paper.specs.Bytes.{Bytes, pasted}
 use Rattle.paper.specs.Strings.{Node, Head}
 use Rattle.paper.specs.Labelling.{plain}
 use Rattle.paper.specs.Tree.{root, rootDigest}
-use Rattle.paper.specs.Verdict.{test, verdict}
 use Rattle.paper.specs.Fields.{headField}
 use Rattle.paper.specs.Audit.{Audit, olds, listField, auditField}
-use Rattle.paper.specs.Table.{Record, recordsWithin, headsWithin, previousHead, allAt, oldAt, distinct}
+use Rattle.paper.specs.Table.{Record, previousHead, allAt, oldAt, distinct}
 use Rattle.paper.specs.Write.{Written, belowRoot, auditProof}
 use Rattle.paper.specs.declared.State.{State}
-use Rattle.paper.specs.declared.WriteAnswer.the-variants as W
 use Rattle.record.specs.Places.{recordsIn}
-use Rattle.table.specs.Shape.{Shaped}
 use Rattle.tree.specs.Stored.{Sorted, Stored}
 use Rattle.forest.specs.declared.Grown.{Grown}
-
--- "1 INPUT", "or an audit writer's new epoch is 0"
-unfoldable pub inputGood : Bytes → Bytes → ℕ → Bool
-inputGood records heads t = recordsWithin records && (headsWithin heads && leb 1 t)
+use Rattle.tested.specs.Tested.{weighed}
 
 -- no two leaves of a tree over A share a label, and none of a tree over O
 abbrev pub bothClear : List Node → List Node → Bool
@@ -59,11 +52,6 @@ pub record NewLaid (heads : Bytes) (t : ℕ) (A O : List Node) (o z : Bytes) (ne
   pub laid : z ≡ pasted o 106 (newWith heads t A O)
   pub second : next ≡ 206 + length (listField .bytes (belowRoot t (root A)))
 
--- a proof is written if its test of 7 passes and it has room
-unfoldable pub weighed : State → Bytes → Bool → Bytes → Written
-weighed state out clear proof =
-    verdict (λ n. record { answer = W.Refused n state; out = out }) (record { answer = W.Written (length proof) state; out = pasted out 0 proof }) (test CLASH clear ∷ test ROOM (leb (length proof) (length out)) ∷ [])
-
 -- "two leaves of a needed tree share a label": not so
 abbrev pub clearAt : ℕ → List Record → Bool
 clearAt t rs = distinct (allAt plain (t - 1) rs) && (distinct (oldAt plain (t - 1) rs) && bothClear (allAt plain t rs) (oldAt plain t rs))
@@ -75,13 +63,6 @@ module _ (records heads : Bytes) (state : State) (out : Bytes) (t : ℕ) where
   -- of tables in shape
   abbrev pub restAt : Written
   restAt = weighed state out (clearAt t rs) (auditField .bytes (auditProof plain heads t rs))
-
--- the tests 1, 11 and 10 have passed
-pub record Sound (records heads : Bytes) (state : State) (t : ℕ) : Type 0 where
-  pub shaped : Shaped records heads (state .count) (state .epoch)
-  pub later : 1 ≤ t
-  pub by : t ≤ state .epoch
-  pub few : state .count ≤ recordsMost
 
 -- the head table reaches to the epoch before
 pub record Step (heads : Bytes) (t : ℕ) : Type 0 where

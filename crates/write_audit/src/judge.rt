@@ -7,7 +7,8 @@ use subtrees::list_length;
 ghost use mathlib.Core.Path.{_≡_};
 ghost use mathlib.Core.Bool.{true};
 ghost use Rattle.paper.specs.Level.{leavesIn};
-ghost use Rattle.write_audit.specs.Audited.{bytesWith, weighed, Step, Kept};
+ghost use Rattle.tested.specs.Tested.{weighed};
+ghost use Rattle.write_audit.specs.Audited.{bytesWith, Step, Kept};
 
 // A header of 6 bytes, two heads of 100, two counts of 4, and records of 99 bytes.
 pub(crate) fn write_from(
@@ -31,17 +32,7 @@ pub(crate) fn write_from(
     if out.len() < size {
         return WriteAnswer::Refused { number: 8, state };
     }
-    lay(
-        heads,
-        epoch,
-        all,
-        all_slots,
-        a,
-        old,
-        old_slots,
-        o,
-        out,
-    );
+    lay(heads, epoch, all, all_slots, a, old, old_slots, o, out);
     WriteAnswer::Written {
         length: size,
         state,

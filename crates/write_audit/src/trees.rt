@@ -5,7 +5,9 @@ use forest::grow;
 use paper::State;
 use paper::WriteAnswer;
 ghost use mathlib.Core.Path.{_≡_};
-ghost use Rattle.write_audit.specs.Audited.{Sound, restAt};
+ghost use Prim.Native.Nat.{_≤_};
+ghost use Rattle.tested.specs.Tested.{Sound};
+ghost use Rattle.write_audit.specs.Audited.{restAt};
 
 // Room for the leaves of a tree, two for each of 4,096 records.
 fn row() -> [u8; 557056] {
@@ -24,7 +26,7 @@ pub(crate) fn write_shaped(
     epoch: u32,
     out: &mut [u8],
 ) -> WriteAnswer
-    requires { ⌜ Sound (now records) (now heads) state epoch ⌝ }
+    requires { ⌜ Sound (now records) (now heads) state epoch × (1 ≤ epoch) ⌝ }
     ensures { λ r. ⌜ record { answer = r; out = now (out .exit) } ≡ restAt (now (records .entry)) (now (heads .entry)) state (now (out .entry)) epoch ⌝ }
 {
     let count = state.count as usize;

@@ -5,14 +5,13 @@ use mathlib.Core.List.{List, _++_, append-assoc}
 use Prim.Native.Nat.{ℕ, zero, suc, _+_, _*_, _^_, _≤_, _<_}
 use native.Mathlib.Omega.{arith}
 use lib.ListN.{length, length-append, length-replicate}
-use borrow.Author.Tests.{leb-true}
 use Rattle.paper.specs.Lists.{every}
 use Rattle.paper.specs.Bytes.{Bytes, pasted}
 use Rattle.paper.specs.Strings.{Node, nodeString}
 use Rattle.paper.specs.Labelling.{plain}
 use Rattle.paper.specs.Tree.{top, root, rootDigest}
 use Rattle.paper.specs.Shows.{Item}
-use Rattle.paper.specs.Table.{previousHead, headLies, lastVersion}
+use Rattle.paper.specs.Table.{previousHead, lastVersion}
 use Rattle.paper.specs.Write.{versionsBy}
 use Rattle.paper.specs.declared.State.{State}
 use Rattle.paper.proofs.Fits.{digest-wide}
@@ -32,7 +31,8 @@ use Rattle.paths.specs.declared.Plan.{Plan}
 use Rattle.front.specs.Front.{frontBytes, itemBytes, itemsFrom}
 use Rattle.front.proofs.Front.{front-length, previous-some}
 use Rattle.front.proofs.Items.{items-all, items-none, items-last}
-use Rattle.write_proof.specs.Judged.{kindBy, itemsBy, versionOf, fromBy, headIn, bytesWith, weighed, planBy, judged, Sound}
+use Rattle.tested.specs.Tested.{weighed}
+use Rattle.write_proof.specs.Judged.{kindBy, itemsBy, versionOf, fromBy, headIn, bytesWith, planBy, judged}
 
 -- ---- sizes
 
@@ -111,14 +111,8 @@ module _ (history : Bool) (records heads : Bytes) (state : State) (out name : By
   proof = bytesWith heads name A O (itemsFrom records name t from (state .count)) plan
 
   -- what is weighed is what is judged
-  pub judged-is : weighed records heads state out (every (freeFor name A O) (askedOf plan)) proof ≡ judged history records heads state out name t A O
+  pub judged-is : weighed state out (every (freeFor name A O) (askedOf plan)) proof ≡ judged history records heads state out name t A O
   judged-is =
       let planned : plan ≡ planBy history records heads state out name t = ap (λ m. record { history = history; number = m; epoch = t }) (g ∙ number-is records name t (state .count) at e) in
       let keys = ap (λ k. itemsFrom records name t k (state .count)) f ∙ items-are records name t (state .count) history at e in
-      λ i. weighed records heads state out (every (freeFor name A O) (askedOf (planned i))) (bytesWith heads name A O (keys i) (planned i))
-
--- ---- the head table reaches to the epoch before
-
-pub heads-reach : (records heads : Bytes) (state : State) (name : Bytes) (t : ℕ) → Sound records heads state name t → t * 32 ≤ length heads
-unfolding headLies
-heads-reach records heads state name t h = omega (arith, leb-true (suc (state .epoch) * 32) (length heads) (h .shaped .lies), h .by)
+      λ i. weighed state out (every (freeFor name A O) (askedOf (planned i))) (bytesWith heads name A O (keys i) (planned i))

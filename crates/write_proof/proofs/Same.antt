@@ -2,7 +2,7 @@
 use mathlib.Core.Path.{_≡_, sym, ap, ap₂, _∙_}
 use mathlib.Core.Bool.{Bool, true, false, not, _||_}
 use mathlib.Core.List.{List, _++_, map}
-use Prim.Native.Nat.{ℕ, _*_}
+use Prim.Native.Nat.{ℕ, _*_, _≤_}
 use lib.ListN.{length, take}
 use Rattle.paper.specs.Lists.{every}
 use Rattle.paper.specs.Numbers.{CLASH}
@@ -29,8 +29,9 @@ use Rattle.own.proofs.Versions.{versions-number}
 use Rattle.paths.specs.Paths.{askedBy, leavesFor, freeFor, pathBytes, Trees}
 use Rattle.front.specs.Front.{frontBytes, itemBytes}
 use Rattle.front.proofs.Front.{proof-bytes}
-use Rattle.write_proof.specs.Judged.{clearBy, proofBy, kindBy, itemsBy, headIn, bytesWith, weighed, restBy, judged, Sound}
-use Rattle.write_proof.proofs.Judging.{clash}
+use Rattle.tested.specs.Tested.{weighed, Sound}
+use Rattle.tested.proofs.Weighed.{clash}
+use Rattle.write_proof.specs.Judged.{clearBy, proofBy, kindBy, itemsBy, headIn, bytesWith, restBy, judged}
 
 -- ---- the same trees, and the same labels in them
 
@@ -102,16 +103,16 @@ module _ (history : Bool) (records heads : Bytes) (state : State) (out name : By
 
   module _ (a : Grown) (ra sa : Bytes) (ga : Grows (leavesBy false t rs) ra sa a) where
     pub all-refused : a .clear ≡ false → restBy history records heads state out name t ≡ unwritten plain records heads state out CLASH
-    all-refused e = clash records heads state out _ _ (all-clash name t rs history (sym (ga .is) ∙ e))
+    all-refused e = clash state out _ _ (all-clash name t rs history (sym (ga .is) ∙ e))
 
     module _ (ea : a .clear ≡ true) (o : Grown) (ro so : Bytes) (go : Grows (leavesBy true t rs) ro so o) where
       pub old-refused : o .clear ≡ false → restBy history records heads state out name t ≡ unwritten plain records heads state out CLASH
-      old-refused e = clash records heads state out _ _ (old-clash name t rs history (sym (ga .is) ∙ ea) (sym (go .is) ∙ e))
+      old-refused e = clash state out _ _ (old-clash name t rs history (sym (ga .is) ∙ ea) (sym (go .is) ∙ e))
 
-      module _ (eo : o .clear ≡ true) (h : Sound records heads state name t) where
+      module _ (eo : o .clear ≡ true) (h : Sound records heads state t) (s : length name ≤ 64) where
         pub trees : Trees (take (a .leaves * 68) ra) (take (a .leaves * 64) sa) a (take (o .leaves * 68) ro) (take (o .leaves * 64) so) o name
         trees = record {
-          ready = record { first = ga .stands ea .sorted; second = go .stands eo .sorted; short = h .short };
+          ready = record { first = ga .stands ea .sorted; second = go .stands eo .sorted; short = s };
           first = ga .stands ea .stored;
           second = go .stands eo .stored;
         }
@@ -123,4 +124,4 @@ module _ (history : Bool) (records heads : Bytes) (state : State) (out name : By
             let x = ga .stands ea in
             let y = go .stands eo in
             let runs = versions-number records name t (state .count) (state .epoch) (h .shaped .shape) in
-            ap₂ (weighed records heads state out) (clear-is name t rs A O runs (sym (ga .is) ∙ ea) (sym (go .is) ∙ eo) (x .labels) (y .labels) history) (proof-is name t rs A O runs (x .tree) (y .tree) heads history)
+            ap₂ (weighed state out) (clear-is name t rs A O runs (sym (ga .is) ∙ ea) (sym (go .is) ∙ eo) (x .labels) (y .labels) history) (proof-is name t rs A O runs (x .tree) (y .tree) heads history)

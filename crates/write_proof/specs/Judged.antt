@@ -1,38 +1,26 @@
 -- Both writers at once: by whether it is a history, what is answered, and what remains of it as tests pass.
-use mathlib.Core.Bool.{Bool, true, false, _&&_}
-use mathlib.Core.List.{List, [], _∷_, _++_, map}
+use mathlib.Core.Bool.{Bool, true, false}
+use mathlib.Core.List.{List, _++_, map}
 use Prim.Native.Nat.{ℕ, zero, suc, _*_, _≤_, _<_}
-use lib.Dec.{leb}
 use lib.ListN.{length}
 use Rattle.paper.specs.Lists.{every}
-use Rattle.paper.specs.Numbers.{wide, nameMost, recordsMost, CLASH, ROOM}
-use Rattle.paper.specs.Bytes.{Bytes, pasted}
+use Rattle.paper.specs.Numbers.{wide}
+use Rattle.paper.specs.Bytes.{Bytes}
 use Rattle.paper.specs.Strings.{Node, Head}
 use Rattle.paper.specs.Labelling.{plain}
 use Rattle.paper.specs.Tree.{rootDigest}
 use Rattle.paper.specs.Fields.{isName}
-use Rattle.paper.specs.Verdict.{test, verdict}
 use Rattle.paper.specs.Shows.{Item}
 use Rattle.paper.specs.Lookup.{lookupAsked, lookupField}
 use Rattle.paper.specs.History.{historyAsked, historyField}
-use Rattle.paper.specs.Table.{Record, recordsWithin, headsWithin, previousHead, lastVersion}
-use Rattle.paper.specs.Write.{Written, itemOf, lastItem, versionsBy, unclashed, lookupProof, historyProof, unwritten, writeLookup, writeHistory}
+use Rattle.paper.specs.Table.{Record, previousHead, lastVersion}
+use Rattle.paper.specs.Write.{Written, itemOf, lastItem, versionsBy, unclashed, lookupProof, historyProof, writeWith}
 use Rattle.paper.specs.declared.State.{State}
-use Rattle.paper.specs.declared.WriteAnswer.the-variants as W
 use Rattle.record.specs.Places.{recordAt, recordsIn, Stands}
-use Rattle.table.specs.Shape.{Shaped}
 use Rattle.paths.specs.Paths.{askedOf, freeFor, pathBytes}
 use Rattle.paths.specs.declared.Plan.{Plan}
 use Rattle.front.specs.Front.{frontBytes, itemBytes}
-
--- "1 INPUT"
-unfoldable pub inputGood : Bytes → Bytes → Bytes → Bool
-inputGood records heads name = recordsWithin records && (headsWithin heads && isName name)
-
--- what either writer leaves
-abbrev pub writtenBy : Bool → Bytes → Bytes → State → Bytes → Bytes → ℕ → Written
-writtenBy true records heads state out name t = writeHistory plain records heads state out name t
-writtenBy false records heads state out name t = writeLookup plain records heads state out name t
+use Rattle.tested.specs.Tested.{weighed}
 
 -- "two leaves of a needed tree share a label, or a label to be shown absent is there": not so; and the proof
 abbrev pub clearBy : Bool → Bytes → ℕ → List Record → Bool
@@ -42,6 +30,10 @@ clearBy false name t rs = unclashed plain name t rs (lookupAsked (lastVersion (v
 abbrev pub proofBy : Bool → Bytes → Bytes → ℕ → List Record → Bytes
 proofBy true heads name t rs = historyField .bytes (historyProof plain name t rs heads)
 proofBy false heads name t rs = lookupField .bytes (lookupProof plain name t rs heads)
+
+-- what either writer leaves
+abbrev pub writtenBy : Bool → Bytes → Bytes → State → Bytes → Bytes → ℕ → Written
+writtenBy history records heads state out name t = writeWith plain records heads state out (isName name) t (clearBy history name t) (proofBy history heads name t)
 
 -- "kind 1 (1 lookup, 2 history, 3 audit)", and the keys
 abbrev pub kindBy : Bool → ℕ
@@ -70,18 +62,13 @@ module _ (heads name : Bytes) (A O : List Node) where
   unfoldable pub bytesWith : List Item → Plan → Bytes
   bytesWith items p = frontBytes (kindBy (p .history)) (headIn (p .epoch)) (p .number) ++ (itemBytes items ++ pathBytes name A O (askedOf p))
 
--- a proof is written if its tests of 7 pass and it has room
-unfoldable pub weighed : Bytes → Bytes → State → Bytes → Bool → Bytes → Written
-weighed records heads state out clear proof =
-    verdict (unwritten plain records heads state out) (record { answer = W.Written (length proof) state; out = pasted out 0 proof }) (test CLASH clear ∷ test ROOM (leb (length proof) (length out)) ∷ [])
-
 module _ (history : Bool) (records heads : Bytes) (state : State) (out name : Bytes) (t : ℕ) where
   abbrev pub versions : List Record
   versions = versionsBy plain name t (recordsIn (state .count) records)
 
   -- of tables in shape
   abbrev pub restBy : Written
-  restBy = weighed records heads state out (clearBy history name t (recordsIn (state .count) records)) (proofBy history heads name t (recordsIn (state .count) records))
+  restBy = weighed state out (clearBy history name t (recordsIn (state .count) records)) (proofBy history heads name t (recordsIn (state .count) records))
 
   -- what the paths of the name's versions are
   abbrev pub planBy : Plan
@@ -89,14 +76,7 @@ module _ (history : Bool) (records heads : Bytes) (state : State) (out name : By
 
   -- of trees whose leaves share no label
   abbrev pub judged : List Node → List Node → Written
-  judged A O = weighed records heads state out (every (freeFor name A O) (askedOf planBy)) (bytesWith heads name A O (itemsBy history versions) planBy)
-
--- the tests 1, 11 and 10 have passed
-pub record Sound (records heads : Bytes) (state : State) (name : Bytes) (t : ℕ) : Type 0 where
-  pub shaped : Shaped records heads (state .count) (state .epoch)
-  pub by : t ≤ state .epoch
-  pub few : state .count ≤ recordsMost
-  pub short : length name ≤ nameMost
+  judged A O = weighed state out (every (freeFor name A O) (askedOf planBy)) (bytesWith heads name A O (itemsBy history versions) planBy)
 
 -- what the front and the keys are read from
 pub record Source (records heads : Bytes) (count from t : ℕ) : Type 0 where

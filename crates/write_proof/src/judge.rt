@@ -15,7 +15,8 @@ ghost use lib.ListN.{length};
 ghost use Rattle.paper.specs.Level.{leavesIn};
 ghost use Rattle.record.specs.Places.{Stands};
 ghost use Rattle.paths.specs.Paths.{Trees};
-ghost use Rattle.write_proof.specs.Judged.{versionOf, fromBy, Sound, judged};
+ghost use Rattle.tested.specs.Tested.{Sound};
+ghost use Rattle.write_proof.specs.Judged.{versionOf, fromBy, judged};
 
 // The version of the name's last record, of which 1 + its number is given, or 0.
 fn number_of(records: &[u8], at: usize) -> u16
@@ -70,7 +71,7 @@ pub(crate) fn write_from(
     o: Grown,
     out: &mut [u8],
 ) -> WriteAnswer
-    requires { ⌜ Sound (now records) (now heads) state (now name) epoch × Trees (now all) (now «all_slots») a (now old) (now «old_slots») o (now name) ⌝ }
+    requires { ⌜ Sound (now records) (now heads) state epoch × Trees (now all) (now «all_slots») a (now old) (now «old_slots») o (now name) ⌝ }
     ensures { λ r. ⌜ record { answer = r; out = now (out .exit) } ≡ judged history (now (records .entry)) (now (heads .entry)) state (now (out .entry)) (now (name .entry)) epoch (leavesIn (a .leaves) (now (all .entry))) (leavesIn (o .leaves) (now (old .entry))) ⌝ }
 {
     let count = state.count as usize;

@@ -4,7 +4,10 @@ use forest::grow;
 use paper::State;
 use paper::WriteAnswer;
 ghost use mathlib.Core.Path.{_≡_};
-ghost use Rattle.write_proof.specs.Judged.{Sound, restBy};
+ghost use Prim.Native.Nat.{_≤_};
+ghost use lib.ListN.{length};
+ghost use Rattle.tested.specs.Tested.{Sound};
+ghost use Rattle.write_proof.specs.Judged.{restBy};
 
 // Room for the leaves of a tree, two for each of 4,096 records.
 fn row() -> [u8; 557056] {
@@ -25,7 +28,7 @@ pub(crate) fn write_shaped(
     history: bool,
     out: &mut [u8],
 ) -> WriteAnswer
-    requires { ⌜ Sound (now records) (now heads) state (now name) epoch ⌝ }
+    requires { ⌜ Sound (now records) (now heads) state epoch × (length (now name) ≤ 64) ⌝ }
     ensures { λ r. ⌜ record { answer = r; out = now (out .exit) } ≡ restBy history (now (records .entry)) (now (heads .entry)) state (now (out .entry)) (now (name .entry)) epoch ⌝ }
 {
     let count = state.count as usize;

@@ -8,8 +8,8 @@ use lib.ListN.{length}
 use Rattle.paper.specs.Bytes.{Bytes}
 use Rattle.paper.specs.Level.{leavesIn}
 use Rattle.paper.specs.declared.WriteAnswer.the-variants as W
+use Rattle.tested.proofs.Weighed.{no-room, written}
 use Rattle.write_audit.specs.Audited.{bytesWith}
-use Rattle.write_audit.proofs.Order.{no-room, written}
 use Rattle.write_audit.proofs.Bytes.{rows-size, list-few}
 use Rattle.write_audit.proofs.judge.write_from.Statement.{statement}
 use Rattle.write_audit.proofs.judge.write_from.Tie as tie

@@ -35,7 +35,7 @@ returns c =
     let g = c .before .before .before .before in
     let s = start g in
     let a = s .args in
-    sym (all-refused (a .records .now) (a .heads .now) (a .state) (a .out .now) (a .epoch) (s .pre) (g .grow .result) (g .grow .last .1 .1 .1 .1 .0) (g .grow .last .1 .1 .1 .1 .1 .0) (g .grow .ensures) (not-true (g .grow .result .clear) (c .if1 .taken)))
+    sym (all-refused (a .records .now) (a .heads .now) (a .state) (a .out .now) (a .epoch) (s .pre .0) (s .pre .1) (g .grow .result) (g .grow .last .1 .1 .1 .1 .0) (g .grow .last .1 .1 .1 .1 .1 .0) (g .grow .ensures) (not-true (g .grow .result .clear) (c .if1 .taken)))
 
 abbrev grown : tie.Else1 → tie.After-grow
 grown c = c .before .before .before .before
@@ -69,7 +69,7 @@ returns-2 c =
     let g = grown e in
     let s = start g in
     let a = s .args in
-    sym (old-refused (a .records .now) (a .heads .now) (a .state) (a .out .now) (a .epoch) (s .pre) (g .grow .result) (g .grow .last .1 .1 .1 .1 .0) (g .grow .last .1 .1 .1 .1 .1 .0) (g .grow .ensures) (alone e) (w .grow2 .result) (w .grow2 .last .1 .1 .1 .1 .0) (w .grow2 .last .1 .1 .1 .1 .1 .0) (w .grow2 .ensures) (not-true (w .grow2 .result .clear) (c .if2 .taken)))
+    sym (old-refused (a .records .now) (a .heads .now) (a .state) (a .out .now) (a .epoch) (s .pre .0) (s .pre .1) (g .grow .result) (g .grow .last .1 .1 .1 .1 .0) (g .grow .last .1 .1 .1 .1 .1 .0) (g .grow .ensures) (alone e) (w .grow2 .result) (w .grow2 .last .1 .1 .1 .1 .0) (w .grow2 .last .1 .1 .1 .1 .1 .0) (w .grow2 .ensures) (not-true (w .grow2 .result .clear) (c .if2 .taken)))
 
 abbrev second : tie.Else2 → tie.After-grow2
 second c = c .before .before .before .before
@@ -121,8 +121,8 @@ write-from-requires c κs =
     let g = grown e in
     let s = start g in
     let a = s .args in (
-      step (a .records .now) (a .heads .now) (a .state) (a .out .now) (a .epoch) (s .pre),
-      kept (a .records .now) (a .heads .now) (a .state) (a .out .now) (a .epoch) (s .pre) (g .grow .result) (g .grow .last .1 .1 .1 .1 .0) (g .grow .last .1 .1 .1 .1 .1 .0) (g .grow .ensures) (alone e) (w .grow2 .result) (w .grow2 .last .1 .1 .1 .1 .0) (w .grow2 .last .1 .1 .1 .1 .1 .0) (w .grow2 .ensures) (not-false (w .grow2 .result .clear) (f .if2 .left)) (omega (arith, g .grow .kept .1 .1 .1 .1 .0)) (omega (arith, w .grow2 .kept .1 .1 .1 .1 .0)),
+      step (a .records .now) (a .heads .now) (a .state) (a .out .now) (a .epoch) (s .pre .0) (s .pre .1),
+      kept (a .records .now) (a .heads .now) (a .state) (a .out .now) (a .epoch) (s .pre .0) (s .pre .1) (g .grow .result) (g .grow .last .1 .1 .1 .1 .0) (g .grow .last .1 .1 .1 .1 .1 .0) (g .grow .ensures) (alone e) (w .grow2 .result) (w .grow2 .last .1 .1 .1 .1 .0) (w .grow2 .last .1 .1 .1 .1 .1 .0) (w .grow2 .ensures) (not-false (w .grow2 .result .clear) (f .if2 .left)) (omega (arith, g .grow .kept .1 .1 .1 .1 .0)) (omega (arith, w .grow2 .kept .1 .1 .1 .1 .0)),
     )
 
 same-length : tie.Need-same-length
@@ -136,7 +136,7 @@ returns-3 c =
     let g = grown e in
     let s = start g in
     let a = s .args in
-    c .before .before .write-from .ensures ∙ sym (rest-is (a .records .now) (a .heads .now) (a .state) (a .out .now) (a .epoch) (s .pre) (g .grow .result) (g .grow .last .1 .1 .1 .1 .0) (g .grow .last .1 .1 .1 .1 .1 .0) (g .grow .ensures) (alone e) (w .grow2 .result) (w .grow2 .last .1 .1 .1 .1 .0) (w .grow2 .last .1 .1 .1 .1 .1 .0) (w .grow2 .ensures) (not-false (w .grow2 .result .clear) (f .if2 .left)))
+    c .before .before .write-from .ensures ∙ sym (rest-is (a .records .now) (a .heads .now) (a .state) (a .out .now) (a .epoch) (s .pre .0) (s .pre .1) (g .grow .result) (g .grow .last .1 .1 .1 .1 .0) (g .grow .last .1 .1 .1 .1 .1 .0) (g .grow .ensures) (alone e) (w .grow2 .result) (w .grow2 .last .1 .1 .1 .1 .0) (w .grow2 .last .1 .1 .1 .1 .1 .0) (w .grow2 .ensures) (not-false (w .grow2 .result .clear) (f .if2 .left)))
 
 pub write-shaped-spec : {M : Type 1} → statement M
 write-shaped-spec =

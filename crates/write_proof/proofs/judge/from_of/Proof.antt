@@ -8,19 +8,15 @@ use Rattle.write_proof.specs.Judged.{fromBy}
 use Rattle.write_proof.proofs.judge.from_of.Statement.{statement}
 use Rattle.write_proof.proofs.judge.from_of.Tie as tie
 
--- src/judge.rt:36:9
 returns : tie.Need-returns
 returns c = search needs
 
--- src/judge.rt:39:9
 returns-2 : tie.Need-returns-2
 returns-2 c = search needs
 
--- src/judge.rt:41:5
 sub-result : tie.Need-sub-result
 sub-result c = search needs
 
--- src/judge.rt:32:1
 returns-3 : tie.Need-returns-3
 returns-3 c =
     let a = c .before .before .args in

@@ -1,25 +1,30 @@
 -- `write_proof::judge::has_room`: what is left is compared.
-use borrow.Author.Tests.{lt-leb}
+use borrow.Author.Tests.{le-leb, lt-leb}
 use native.Mathlib.Omega.{arith}
-use mathlib.Core.Path.{sym}
-use Prim.Native.Nat.{_+_}
-use Rattle.write_proof.proofs.Judging.{left-over}
+use native.Mathlib.Decide.{decLe}
+use mathlib.Core.Path.{_≡_, sym, _∙_}
+use mathlib.Core.Logic.{by-cases}
+use Prim.Native.Nat.{ℕ, _+_, _-_, _≤_}
+use lib.Dec.{leb}
 use Rattle.write_proof.proofs.judge.has_room.Statement.{statement}
 use Rattle.write_proof.proofs.judge.has_room.Tie as tie
 
--- src/judge.rt:49:9
+-- what is left decides
+left-over : (room keys paths : ℕ) → 108 ≤ room → keys ≤ room - 108 → leb paths (room - 108 - keys) ≡ leb (108 + keys + paths) room
+left-over room keys paths h k = by-cases (decLe paths (room - 108 - keys))
+    (λ l. le-leb paths (room - 108 - keys) l ∙ sym (le-leb (108 + keys + paths) room (omega arith)))
+    (λ l. lt-leb paths (room - 108 - keys) (omega arith) ∙ sym (lt-leb (108 + keys + paths) room (omega arith)))
+
 returns : tie.Need-returns
 returns c =
     let a = c .before .args in
     sym (lt-leb (108 + a .keys + a .paths) (a .room) (omega (arith, c .if1 .taken)))
 
--- src/judge.rt:53:9
 returns-2 : tie.Need-returns-2
 returns-2 c =
     let a = c .before .before .args in
     sym (lt-leb (108 + a .keys + a .paths) (a .room) (omega (arith, c .if2 .taken)))
 
--- src/judge.rt:45:1
 returns-3 : tie.Need-returns-3
 returns-3 c =
     let a = c .before .before .args in

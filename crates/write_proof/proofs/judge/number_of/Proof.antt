@@ -7,19 +7,15 @@ use Rattle.write_proof.specs.Judged.{versionOf}
 use Rattle.write_proof.proofs.judge.number_of.Statement.{statement}
 use Rattle.write_proof.proofs.judge.number_of.Tie as tie
 
--- src/judge.rt:26:9
 returns : tie.Need-returns
 returns c = search needs
 
--- src/judge.rt:28:25
 sub-version-at : tie.Need-sub-version-at
 sub-version-at c = search needs
 
--- src/judge.rt:28:5
 version-at-requires : tie.Need-version-at-requires
 version-at-requires c κs = c .before .before .pre _ (omega (arith, c .if1 .left))
 
--- src/judge.rt:21:1
 returns-2 : tie.Need-returns-2
 returns-2 c =
     let a = c .before .before .before .args in

@@ -15,21 +15,20 @@ use Rattle.paper.specs.declared.WriteAnswer.the-variants as W
 use Rattle.paths.specs.Paths.{askedOf, freeFor}
 use Rattle.paths.specs.declared.Plan.{Plan}
 use Rattle.front.specs.Front.{itemsFrom}
-use Rattle.write_proof.specs.Judged.{bytesWith, weighed, judged}
-use Rattle.write_proof.proofs.Judging.{clash, no-room, written}
-use Rattle.write_proof.proofs.Bytes.{with-size, asked-few, from-within, last-stands, judged-is, heads-reach}
+use Rattle.tested.specs.Tested.{weighed}
+use Rattle.tested.proofs.First.{heads-reach}
+use Rattle.tested.proofs.Weighed.{clash, no-room, written}
+use Rattle.write_proof.specs.Judged.{bytesWith, judged}
+use Rattle.write_proof.proofs.Bytes.{with-size, asked-few, from-within, last-stands, judged-is}
 use Rattle.write_proof.proofs.judge.write_from.Statement.{statement}
 use Rattle.write_proof.proofs.judge.write_from.Tie as tie
 
--- src/judge.rt:76:17
 cast-count : tie.Need-cast-count
 cast-count c = search needs
 
--- src/judge.rt:77:9
 latest-requires : tie.Need-latest-requires
 latest-requires c κs = search needs
 
--- src/judge.rt:78:9
 from-of-requires : tie.Need-from-of-requires
 from-of-requires c κs = search needs
 
@@ -50,30 +49,27 @@ proof c = bytesWith (start c .args .heads .now) (start c .args .name .now) (firs
 
 -- what is weighed here is what is judged
 weighs : (c : tie.After-number-of) → let a = start c .args in
-    weighed (a .records .now) (a .heads .now) (a .state) (a .out .now) (every (freeFor (a .name .now) (first-leaves c) (second-leaves c)) (askedOf (plan c))) (proof c)
+    weighed (a .state) (a .out .now) (every (freeFor (a .name .now) (first-leaves c) (second-leaves c)) (askedOf (plan c))) (proof c)
     ≡ judged (a .history) (a .records .now) (a .heads .now) (a .state) (a .out .now) (a .name .now) (a .epoch) (first-leaves c) (second-leaves c)
 weighs c =
     let a = start c .args in
     judged-is (a .history) (a .records .now) (a .heads .now) (a .state) (a .out .now) (a .name .now) (a .epoch) (first-leaves c) (second-leaves c) (c .before .before .latest .result) (c .before .from-of .result) (c .number-of .result) (c .before .before .latest .ensures) (c .before .from-of .ensures) (c .number-of .ensures)
 
--- src/judge.rt:81:17
 number-of-requires : tie.Need-number-of-requires
 number-of-requires c κs =
     let l = c .before in
     let a = l .before .before .before .before .before .before .before .before .before .before in
     last-stands (a .args .records .now) (a .args .name .now) (a .args .epoch) (a .args .state .count) (a .pre .0 .shaped .stands) (l .latest .result) (l .latest .ensures)
 
--- src/judge.rt:84:9
 measure-paths-requires : tie.Need-measure-paths-requires
 measure-paths-requires c κs = (start c .pre .1 .ready, asked-few (plan c) (omega (arith, c .number-of .ok)))
 
--- src/judge.rt:86:9
 returns : tie.Need-returns
 returns c =
     let m = c .before .before in
     let n = m .before in
     let a = start n .args in
-    sym (clash (a .records .now) (a .heads .now) (a .state) (a .out .now) _ (proof n) (sym (m .measure-paths .ensures .clear) ∙ not-true (m .measure-paths .result .clear) (c .if1 .taken))) ∙ weighs n
+    sym (clash (a .state) (a .out .now) _ (proof n) (sym (m .measure-paths .ensures .clear) ∙ not-true (m .measure-paths .result .clear) (c .if1 .taken))) ∙ weighs n
 
 -- no label to be shown absent is there
 free : (c : tie.Else1) → let n = c .before .before .before in
@@ -86,9 +82,8 @@ within c =
     subst (λ f. f ≤ a .state .count) (sym (c .before .from-of .ensures)) (from-within (a .records .now) (a .name .now) (a .epoch) (a .state .count) (a .history) (c .before .before .latest .result) (c .before .before .latest .ensures))
 
 reach : (c : tie.After-number-of) → start c .args .epoch * 32 ≤ length (start c .args .heads .now)
-reach c = let a = start c .args in heads-reach (a .records .now) (a .heads .now) (a .state) (a .name .now) (a .epoch) (start c .pre .0)
+reach c = let a = start c .args in heads-reach (a .records .now) (a .heads .now) (a .state) (a .epoch) (start c .pre .0)
 
--- src/judge.rt:88:9
 items-size-requires : tie.Need-items-size-requires
 items-size-requires c κs = let n = c .before .before .before in (start n .pre .0 .shaped .stands, within n)
 
@@ -100,11 +95,9 @@ size c =
     let a = start n .args in
     with-size (a .heads .now) (a .name .now) (first-leaves n) (second-leaves n) _ (plan n) (reach n) ∙ ap₂ (λ x y. 108 + x + y) (sym (c .items-size .ensures)) (sym (m .measure-paths .ensures .size))
 
--- src/judge.rt:89:9
 has-room-requires : tie.Need-has-room-requires
 has-room-requires c κs = search needs
 
--- src/judge.rt:90:9
 returns-2 : tie.Need-returns-2
 returns-2 c =
     let h = c .before in
@@ -113,7 +106,7 @@ returns-2 c =
     let a = start n .args in
     let e = sym (h .has-room .ensures) ∙ not-true (h .has-room .result) (c .if2 .taken) in
     let l = leb-false (108 + k .items-size .result + k .before .before .before .measure-paths .result .size) (length (a .out .now)) e in
-    sym (no-room (a .records .now) (a .heads .now) (a .state) (a .out .now) _ (proof n) (free (k .before)) (omega (arith, size k, l))) ∙ weighs n
+    sym (no-room (a .state) (a .out .now) _ (proof n) (free (k .before)) (omega (arith, size k, l))) ∙ weighs n
 
 -- it has room
 fits : (c : tie.Else2) → let k = c .before .before in
@@ -125,7 +118,6 @@ fits c =
     let m = k .before .before .before in
     leb-true (108 + k .items-size .result + m .measure-paths .result .size) (length (start (m .before) .args .out .now)) (sym (h .has-room .ensures) ∙ not-false (h .has-room .result) (c .if2 .left))
 
--- src/judge.rt:92:5
 lay-requires : tie.Need-lay-requires
 lay-requires c κs =
     let e = c .before in
@@ -133,19 +125,15 @@ lay-requires c κs =
     let n = k .before .before .before .before in
     (record { stand = start n .pre .0 .shaped .stands; within = within n; reach = reach n }, start n .pre .1, omega (arith, size k, fits e))
 
--- src/judge.rt:94:17
 add-t22 : tie.Need-add-t22
 add-t22 c = let h = fits (c .before .before .before .before) in let g = c .before .before .before .before .before .before .before .before .before .before .before .before .before .before .before .before .before .before .before .before .before .before .good .1 .1 .1 .1 .1 .1 .1 .1 .1 .1 .1 .1 .0 in search needs
 
--- src/judge.rt:94:17
 add-t27 : tie.Need-add-t27
 add-t27 c = let h = fits (c .before .before .before .before .before) in let g = c .before .before .before .before .before .before .before .before .before .before .before .before .before .before .before .before .before .before .before .before .before .before .before .good .1 .1 .1 .1 .1 .1 .1 .1 .1 .1 .1 .1 .0 in search needs
 
--- src/judge.rt:58:1
 same-length : tie.Need-same-length
 same-length c = search needs
 
--- src/judge.rt:58:1
 returns-3 : tie.Need-returns-3
 returns-3 c =
     let l = c .before .before .before in
@@ -153,7 +141,7 @@ returns-3 c =
     let k = e .before .before in
     let n = k .before .before .before .before in
     let a = start n .args in
-    let whole = written (a .records .now) (a .heads .now) (a .state) (a .out .now) _ (proof n) (free (k .before)) (omega (arith, size k, fits e)) in
+    let whole = written (a .state) (a .out .now) _ (proof n) (free (k .before)) (omega (arith, size k, fits e)) in
     sym (whole ∙ ap₂ (λ x (o : Bytes). record { answer = W.Written x (a .state); out = o }) (size k) (sym (l .lay .ensures))) ∙ weighs n
 
 pub write-from-spec : {M : Type 1} → statement M

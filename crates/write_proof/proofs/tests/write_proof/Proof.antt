@@ -1,112 +1,61 @@
--- `write_proof::tests::write_proof`: the tests in their order.
+-- `write_proof::tests::write_proof`: the first tests refuse, or the rest remains.
 use borrow.Author.Needs.{needs}
-use borrow.Author.Tests.{not-true, not-false}
-use native.Mathlib.Omega.{arith}
-use mathlib.Core.Path.{_≡_, sym, _∙_}
-use mathlib.Core.Bool.{true}
-use Rattle.words.proofs.Slices.{bytewise}
-use Rattle.table.specs.Shape.{Shaped}
-use Rattle.table.proofs.Shapes.{shaped-told}
-use Rattle.write_proof.specs.Judged.{inputGood}
-use Rattle.write_proof.proofs.Order.{input-bad, table-bad, late, rest, records-few, sound}
+use mathlib.Core.Path.{sym, _∙_, subst}
+use Rattle.paper.specs.Fields.{isName}
+use Rattle.names.proofs.Named.{name-short}
+use Rattle.tested.specs.Tested.{Tested}
+use Rattle.tested.proofs.First.{argument-good}
+use Rattle.tested.proofs.Order.{refused, passed}
+use Rattle.write_proof.specs.Judged.{clearBy, proofBy}
 use Rattle.write_proof.proofs.tests.write_proof.Statement.{statement}
 use Rattle.write_proof.proofs.tests.write_proof.Tie as tie
 
--- src/tests.rt:41:9
-input-good-requires : tie.Need-input-good-requires
-input-good-requires c κs = search needs
+is-name-requires : tie.Need-is-name-requires
+is-name-requires c κs = search needs
 
--- src/tests.rt:42:9
-returns : tie.Need-returns
-returns c =
-    let w = c .before in
-    let a = w .before .before .before .before .before .args in
-    sym (input-bad (a .history) (a .records .now) (a .heads .now) (a .state) (a .out .now) (a .name .now) (a .epoch) (sym (w .input-good .ensures) ∙ not-true (w .input-good .result) (c .if1 .taken)))
+refusal-requires : tie.Need-refusal-requires
+refusal-requires c κs = search needs
 
-abbrev start : tie.Else1 → tie.Start
+abbrev start : tie.After-refusal → tie.Start
 start c = c .before .before .before .before .before .before
 
--- "1" passes
-good : (c : tie.Else1) → inputGood (start c .args .records .now) (start c .args .heads .now) (start c .args .name .now) ≡ true
-good c = sym (c .before .input-good .ensures) ∙ not-false (c .before .input-good .result) (c .if1 .left)
+-- what is asked of the name is that it is one
+tests : (c : tie.After-refusal) → let a = start c .args in Tested (a .records .now) (a .heads .now) (a .state) (a .epoch) (isName (a .name .now)) (c .refusal .result)
+tests c =
+    let a = start c .args in
+    subst (λ good. Tested (a .records .now) (a .heads .now) (a .state) (a .epoch) good (c .refusal .result)) (c .before .is-name .ensures) (c .refusal .ensures)
 
--- src/tests.rt:44:21
-index-requires : tie.Need-index-requires
-index-requires c κs = search needs
+returns : tie.Need-returns
+returns c =
+    let r = c .before in
+    let a = start r .args in
+    sym (refused (a .records .now) (a .heads .now) (a .state) (a .out .now) (isName (a .name .now)) (a .epoch) (clearBy (a .history) (a .name .now) (a .epoch)) (proofBy (a .history) (a .heads .now) (a .name .now) (a .epoch)) (r .refusal .result) (tests r) (c .if1 .taken))
 
--- src/tests.rt:45:20
-index-requires-2 : tie.Need-index-requires-2
-index-requires-2 c κs = search needs
-
--- src/tests.rt:46:60
-slice-aggregate-in-shape : tie.Need-slice-aggregate-in-shape
-slice-aggregate-in-shape c = search needs
-
--- src/tests.rt:46:72
-slice-aggregate-in-shape-2 : tie.Need-slice-aggregate-in-shape-2
-slice-aggregate-in-shape-2 c = search needs
-
--- src/tests.rt:46:9
-in-shape-requires : tie.Need-in-shape-requires
-in-shape-requires c κs = let e = c .before .before .before .before in (search needs, search needs, records-few (start e .args .records .now) (start e .args .heads .now) (start e .args .name .now) (good e))
-
--- src/tests.rt:47:9
-returns-2 : tie.Need-returns-2
-returns-2 c =
-    let n = c .before .before .before in
-    let e = n .before .before .before .before .before in
-    let a = start e .args in
-    sym (table-bad (a .history) (a .records .now) (a .heads .now) (a .state) (a .out .now) (a .name .now) (a .epoch) (good e) (sym (n .in-shape .ensures .is) ∙ not-true (n .in-shape .result) (c .if2 .taken)))
-
--- "11" passes
-shape : (c : tie.Else2) → let a = start (c .before .before .before .before .before .before .before .before) .args in Shaped (a .records .now) (a .heads .now) (a .state .count) (a .state .epoch)
-shape c =
-    let n = c .before .before .before in
-    let e = c .before .before .before .before .before .before .before .before in
-    let a = start e .args in
-    shaped-told (a .records .now) (a .heads .now) (a .state .count) (a .state .epoch) (bytewise (a .records .now) (e .before .before .before .before .before .shared-slice-known .given)) (sym (n .in-shape .ensures .is) ∙ not-false (n .in-shape .result) (c .if2 .left))
-
--- src/tests.rt:50:9
-returns-3 : tie.Need-returns-3
-returns-3 c =
-    let f = c .before .before in
-    let e = f .before .before .before .before .before .before .before .before in
-    let a = start e .args in
-    sym (late (a .history) (a .records .now) (a .heads .now) (a .state) (a .out .now) (a .name .now) (a .epoch) (good e) (shape f) (omega (arith, c .if3 .taken)))
-
--- src/tests.rt:52:5
 write-shaped-requires : tie.Need-write-shaped-requires
 write-shaped-requires c κs =
-    let f = c .before .before .before in
-    let e = f .before .before .before .before .before .before .before .before in
-    let a = start e .args in
-    sound (a .records .now) (a .heads .now) (a .name .now) (a .state) (a .epoch) (good e) (shape f) (omega (arith, c .before .if3 .left))
+    let e = c .before in
+    let r = e .before in
+    let a = start r .args in
+    (tests r .sound (e .if1 .left), name-short (a .name .now) (argument-good (a .records .now) (a .heads .now) (a .state) (a .epoch) (isName (a .name .now)) (r .refusal .result) (tests r) (e .if1 .left)))
 
--- src/tests.rt:30:1
 same-length : tie.Need-same-length
 same-length c = search needs
 
--- src/tests.rt:30:1
-returns-4 : tie.Need-returns-4
-returns-4 c =
-    let f = c .before .before .before .before .before .before in
-    let e = f .before .before .before .before .before .before .before .before in
-    let a = start e .args in
-    c .before .before .write-shaped .ensures ∙ sym (rest (a .history) (a .records .now) (a .heads .now) (a .state) (a .out .now) (a .name .now) (a .epoch) (good e) (shape f) (omega (arith, c .before .before .before .before .if3 .left)))
+returns-2 : tie.Need-returns-2
+returns-2 c =
+    let w = c .before .before in
+    let e = w .before .before in
+    let r = e .before in
+    let a = start r .args in
+    w .write-shaped .ensures ∙ sym (passed (a .records .now) (a .heads .now) (a .state) (a .out .now) (isName (a .name .now)) (a .epoch) (clearBy (a .history) (a .name .now) (a .epoch)) (proofBy (a .history) (a .heads .now) (a .name .now) (a .epoch)) (r .refusal .result) (tests r) (e .if1 .left))
 
 pub write-proof-spec : {M : Type 1} → statement M
 write-proof-spec =
     tie.close
     (tie.spec
-    input-good-requires
+    is-name-requires
+    refusal-requires
     returns
-    index-requires
-    index-requires-2
-    slice-aggregate-in-shape
-    slice-aggregate-in-shape-2
-    in-shape-requires
-    returns-2
-    returns-3
     write-shaped-requires
     same-length
-    returns-4)
+    returns-2)

@@ -8,27 +8,21 @@ use Rattle.write_proof.proofs.Same.{all-refused, old-refused, trees, re
 use Rattle.write_proof.proofs.trees.write_shaped.Statement.{statement}
 use Rattle.write_proof.proofs.trees.write_shaped.Tie as tie
 
--- src/trees.rt:31:17
 cast-count : tie.Need-cast-count
 cast-count c = search needs
 
--- src/trees.rt:32:22
 row-requires : tie.Need-row-requires
 row-requires c κs = search needs
 
--- src/trees.rt:33:23
 slots-requires : tie.Need-slots-requires
 slots-requires c κs = search needs
 
--- src/trees.rt:34:50
 slice-aggregate-grow : tie.Need-slice-aggregate-grow
 slice-aggregate-grow c = search needs
 
--- src/trees.rt:34:63
 slice-aggregate-grow-2 : tie.Need-slice-aggregate-grow-2
 slice-aggregate-grow-2 c = search needs
 
--- src/trees.rt:34:9
 grow-requires : tie.Need-grow-requires
 grow-requires c κs = search needs
 
@@ -39,34 +33,27 @@ start c = c .before .before .before .before .before .before .before .before .bef
 alone : (c : tie.Else1) → c .before .before .before .before .grow .result .clear ≡ true
 alone c = not-false (c .before .before .before .before .grow .result .clear) (c .if1 .left)
 
--- src/trees.rt:36:9
 returns : tie.Need-returns
 returns c =
     let g = c .before .before .before .before in
     let a = start g .args in
     sym (all-refused (a .history) (a .records .now) (a .heads .now) (a .state) (a .out .now) (a .name .now) (a .epoch) (g .grow .result) (g .grow .last .1 .1 .1 .1 .0) (g .grow .last .1 .1 .1 .1 .1 .0) (g .grow .ensures) (not-true (g .grow .result .clear) (c .if1 .taken)))
 
--- src/trees.rt:38:24
 row-requires-2 : tie.Need-row-requires-2
 row-requires-2 c κs = search needs
 
--- src/trees.rt:39:23
 slots-requires-2 : tie.Need-slots-requires-2
 slots-requires-2 c κs = search needs
 
--- src/trees.rt:40:49
 slice-aggregate-grow-3 : tie.Need-slice-aggregate-grow-3
 slice-aggregate-grow-3 c = search needs
 
--- src/trees.rt:40:64
 slice-aggregate-grow-4 : tie.Need-slice-aggregate-grow-4
 slice-aggregate-grow-4 c = search needs
 
--- src/trees.rt:40:9
 grow-requires-2 : tie.Need-grow-requires-2
 grow-requires-2 c κs = search needs
 
--- src/trees.rt:42:9
 returns-2 : tie.Need-returns-2
 returns-2 c =
     let w = c .before .before .before .before in
@@ -75,55 +62,42 @@ returns-2 c =
     let a = start g .args in
     sym (old-refused (a .history) (a .records .now) (a .heads .now) (a .state) (a .out .now) (a .name .now) (a .epoch) (g .grow .result) (g .grow .last .1 .1 .1 .1 .0) (g .grow .last .1 .1 .1 .1 .1 .0) (g .grow .ensures) (alone e) (w .grow2 .result) (w .grow2 .last .1 .1 .1 .1 .0) (w .grow2 .last .1 .1 .1 .1 .1 .0) (w .grow2 .ensures) (not-true (w .grow2 .result .clear) (c .if2 .taken)))
 
--- src/trees.rt:44:13
 mul-a : tie.Need-mul-a
 mul-a c = search needs
 
--- src/trees.rt:45:13
 mul-b : tie.Need-mul-b
 mul-b c = search needs
 
--- src/trees.rt:46:13
 mul-c : tie.Need-mul-c
 mul-c c = search needs
 
--- src/trees.rt:47:13
 mul-d : tie.Need-mul-d
 mul-d c = search needs
 
--- src/trees.rt:55:9
 array-share-prefix-leaves : tie.Need-array-share-prefix-leaves
 array-share-prefix-leaves c = c .before .before .before .before .before .before .before .before .before .before .before .before .before .before .before .before .before .grow .ensures .within
 
--- src/trees.rt:55:9
 slice-aggregate-write-from : tie.Need-slice-aggregate-write-from
 slice-aggregate-write-from c = sym (length-take-le _ _ (c .before .before .before .before .before .before .before .before .before .before .before .before .before .before .before .before .before .before .grow .ensures .within))
 
--- src/trees.rt:56:9
 array-share-prefix-digests : tie.Need-array-share-prefix-digests
 array-share-prefix-digests c = c .before .before .before .before .before .before .before .before .before .before .before .before .before .before .before .before .before .before .grow .ensures .reach
 
--- src/trees.rt:56:9
 slice-aggregate-write-from-2 : tie.Need-slice-aggregate-write-from-2
 slice-aggregate-write-from-2 c = sym (length-take-le _ _ (c .before .before .before .before .before .before .before .before .before .before .before .before .before .before .before .before .before .before .before .grow .ensures .reach))
 
--- src/trees.rt:58:9
 array-share-prefix-replaced : tie.Need-array-share-prefix-replaced
 array-share-prefix-replaced c = search needs
 
--- src/trees.rt:58:9
 slice-aggregate-write-from-3 : tie.Need-slice-aggregate-write-from-3
 slice-aggregate-write-from-3 c = sym (length-take-le _ _ (c .before .before .before .before .before .before .before .before .before .before .before .grow2 .ensures .within))
 
--- src/trees.rt:59:9
 array-share-prefix-beneath : tie.Need-array-share-prefix-beneath
 array-share-prefix-beneath c = search needs
 
--- src/trees.rt:59:9
 slice-aggregate-write-from-4 : tie.Need-slice-aggregate-write-from-4
 slice-aggregate-write-from-4 c = sym (length-take-le _ _ (c .before .before .before .before .before .before .before .before .before .before .before .before .grow2 .ensures .reach))
 
--- src/trees.rt:48:5
 write-from-requires : tie.Need-write-from-requires
 write-from-requires c κs =
     let f = c .before .before .before .before .before .before .before .before .before in
@@ -131,13 +105,11 @@ write-from-requires c κs =
     let e = w .before .before .before .before .before in
     let g = e .before .before .before .before in
     let a = start g .args in
-    (start g .pre, trees (a .history) (a .records .now) (a .heads .now) (a .state) (a .out .now) (a .name .now) (a .epoch) (g .grow .result) (g .grow .last .1 .1 .1 .1 .0) (g .grow .last .1 .1 .1 .1 .1 .0) (g .grow .ensures) (alone e) (w .grow2 .result) (w .grow2 .last .1 .1 .1 .1 .0) (w .grow2 .last .1 .1 .1 .1 .1 .0) (w .grow2 .ensures) (not-false (w .grow2 .result .clear) (f .if2 .left)) (start g .pre))
+    (start g .pre .0, trees (a .history) (a .records .now) (a .heads .now) (a .state) (a .out .now) (a .name .now) (a .epoch) (g .grow .result) (g .grow .last .1 .1 .1 .1 .0) (g .grow .last .1 .1 .1 .1 .1 .0) (g .grow .ensures) (alone e) (w .grow2 .result) (w .grow2 .last .1 .1 .1 .1 .0) (w .grow2 .last .1 .1 .1 .1 .1 .0) (w .grow2 .ensures) (not-false (w .grow2 .result .clear) (f .if2 .left)) (start g .pre .0) (start g .pre .1))
 
--- src/trees.rt:19:1
 same-length : tie.Need-same-length
 same-length c = search needs
 
--- src/trees.rt:19:1
 returns-3 : tie.Need-returns-3
 returns-3 c =
     let f = c .before .before .before .before .before .before .before .before .before .before .before .before in
@@ -145,7 +117,7 @@ returns-3 c =
     let e = w .before .before .before .before .before in
     let g = e .before .before .before .before in
     let a = start g .args in
-    c .before .before .write-from .ensures ∙ sym (rest-is (a .history) (a .records .now) (a .heads .now) (a .state) (a .out .now) (a .name .now) (a .epoch) (g .grow .result) (g .grow .last .1 .1 .1 .1 .0) (g .grow .last .1 .1 .1 .1 .1 .0) (g .grow .ensures) (alone e) (w .grow2 .result) (w .grow2 .last .1 .1 .1 .1 .0) (w .grow2 .last .1 .1 .1 .1 .1 .0) (w .grow2 .ensures) (not-false (w .grow2 .result .clear) (f .if2 .left)) (start g .pre))
+    c .before .before .write-from .ensures ∙ sym (rest-is (a .history) (a .records .now) (a .heads .now) (a .state) (a .out .now) (a .name .now) (a .epoch) (g .grow .result) (g .grow .last .1 .1 .1 .1 .0) (g .grow .last .1 .1 .1 .1 .1 .0) (g .grow .ensures) (alone e) (w .grow2 .result) (w .grow2 .last .1 .1 .1 .1 .0) (w .grow2 .last .1 .1 .1 .1 .1 .0) (w .grow2 .ensures) (not-false (w .grow2 .result .clear) (f .if2 .left)) (start g .pre .0) (start g .pre .1))
 
 pub write-shaped-spec : {M : Type 1} → statement M
 write-shaped-spec =

@@ -1,10 +1,10 @@
--- `write_audit::input_good`: the tests one after the other.
+-- `tested::input_good`: the tests one after the other.
 use borrow.Author.Needs.{needs}
 use borrow.Author.Tests.{not-true, not-false}
 use mathlib.Core.Path.{sym, _∙_}
-use Rattle.write_audit.specs.Audited.{inputGood}
-use Rattle.write_audit.proofs.input_good.Statement.{statement}
-use Rattle.write_audit.proofs.input_good.Tie as tie
+use Rattle.tested.specs.Tested.{inputGood}
+use Rattle.tested.proofs.input_good.Statement.{statement}
+use Rattle.tested.proofs.input_good.Tie as tie
 
 records-within-requires : tie.Need-records-within-requires
 records-within-requires c κs = search needs

@@ -1,0 +1,4 @@
+-- Laws of the writers' first tests, and of what remains.
+pub mod First
+pub mod Order
+pub mod Weighed

@@ -1,0 +1,2 @@
+-- What the contracts of the writers' first tests cite.
+pub mod Tested
