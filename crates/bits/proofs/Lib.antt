@@ -2,3 +2,4 @@
 pub mod Bits
 pub mod Pack
 pub mod Lcp
+pub mod First
