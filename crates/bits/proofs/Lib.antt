@@ -3,3 +3,4 @@ pub mod Bits
 pub mod Pack
 pub mod Lcp
 pub mod First
+pub mod Powers
