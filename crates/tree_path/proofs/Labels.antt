@@ -12,7 +12,7 @@ use Rattle.paper.specs.Path.{sameBits}
 use Rattle.paper.proofs.Lists.{true-or-false, not-both}
 use Rattle.paper.proofs.Bytes.{same-eq, eq-same, bitsOf-length, bitsOf-inj}
 use Rattle.paper.proofs.Walk.{sameBits-eq, eq-sameBits, fails}
-use Rattle.bits.proofs.First.{first-bits}
+use Rattle.bits.proofs.Lcp.{first-bits}
 
 pub begins-by : (s label : Bytes) (k : ℕ) → 68 ≤ length s → length label ≡ 32 → k ≤ 256 → leb k (firstDifference (take 32 label) (take 32 (take 32 s))) ≡ starts (take k (bitsOf (take 32 s))) (bitsOf label)
 unfolding firstDifference
