@@ -1,5 +1,4 @@
 -- Laws of sorting leaves.
-pub mod Leaves
 pub mod Counts
 pub mod Parting
 pub mod Order

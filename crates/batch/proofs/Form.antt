@@ -7,16 +7,15 @@ use Prim.Native.Nat.{ℕ, suc, _+_, _*_, _≤_, _<_}
 use native.Mathlib.Omega.{arith}
 use lib.ListN.{length, drop, length-drop, drop-of-length-le}
 use lib.Seq.{drop-drop, getD-drop}
-use Rattle.paper.specs.Lists.{every, upFrom}
 use Rattle.paper.specs.Numbers.{wide, updateSize}
 use Rattle.paper.specs.Bytes.{Bytes, Bytewise}
 use Rattle.paper.specs.Layout.{got, bad, inLayout, times, whole, parse}
 use Rattle.paper.specs.Fields.{isName}
 use Rattle.paper.specs.Table.{filledField, nameField, updateField}
 use Rattle.paper.proofs.Proofs.{update-lawful}
-use Rattle.paper.proofs.Lists.{true-or-false, not-both, and-left, all-in, in-all, all-drop, every-all, all-every, in-upFrom, upFrom-in}
-use Rattle.fields.proofs.Flat.{Flat, flat-as, flat-in, flat-yes, flat-no, block-flat, seq-flat, view-flat, such-flat}
-use Rattle.fields.proofs.Many.{many-flat}
+use Rattle.paper.proofs.Lists.{true-or-false, not-both, and-left, all-drop}
+use Rattle.fields.proofs.Flat.{Flat, flat-as, flat-in, flat-yes, block-flat, seq-flat, view-flat, such-flat}
+use Rattle.fields.proofs.Many.{many-yes, many-no}
 use Rattle.record.proofs.Form.{filledTest, filledIn, filled-flat}
 use Rattle.table.proofs.Formed.{filled-is, filled-short}
 use Rattle.batch.specs.Places.{updateIn, updateAt, updatesIn, Lies}
@@ -80,37 +79,20 @@ module _ (s : Bytes) (i : ℕ) (w : Bytewise s) (room : suc i * updateSize ≤ l
 -- ---- all updates
 
 module _ (s : Bytes) (n : ℕ) (w : Bytewise s) (size : length s ≡ n * updateSize) where
-  abbrev tests : Bool
-  tests = every (λ i. updateTest (drop (i * updateSize) s)) (upFrom 0 n)
-
-  room : (i : ℕ) → i < n → suc i * updateSize ≤ length s
-  room i h = omega arith
-
-  passed : ((i : ℕ) → i < n → formed s i ≡ true) → tests ≡ true
-  passed f = all-every _ (upFrom 0 n) (in-all _ (upFrom 0 n) (λ i m.
-      let h : i < n = omega (arith, upFrom-in 0 n i m .1) in
-      sym (tested-is s i w (room i h)) ∙ f i h))
-
-  failed : (i : ℕ) → i < n → formed s i ≡ false → tests ≡ false
-  failed i h e = ⊎-elim
-      (λ t. not-both (tested-is s i w (room i h) ∙ all-in _ (upFrom 0 n) (every-all _ (upFrom 0 n) t) i (in-upFrom 0 n i (omega arith) (omega arith))) e)
-      (λ t. t)
-      (true-or-false tests)
-
   -- all in layout: what is read are the updates that stand there
   pub batch-read : ((i : ℕ) → i < n → formed s i ≡ true) → parse (times n updateField) s ≡ got (updatesIn n s) []
   unfolding times updatesIn updateAt
   batch-read f =
       let e : drop (n * updateSize) s ≡ [] = drop-of-length-le s {i = n * updateSize} (omega arith) in
-      ap whole (flat-yes (many-flat update-flat n) s w (omega arith) (passed f) ∙ ap (got (updatesIn n s)) e)
+      ap whole (many-yes update-flat s w n (omega arith) f ∙ ap (got (updatesIn n s)) e)
 
   pub batch-bad : (i : ℕ) → i < n → formed s i ≡ false → parse (times n updateField) s ≡ bad
   unfolding times
-  batch-bad i h e = ap whole (flat-no (many-flat update-flat n) s w (failed i h e))
+  batch-bad i h e = ap whole (many-no update-flat s w n (omega arith) i h e)
 
   -- and back: if something is read, each update is in layout
   pub batch-formed : inLayout (parse (times n updateField) s) ≡ true → (i : ℕ) → i < n → formed s i ≡ true
   batch-formed e i h = ⊎-elim (λ t. t) (λ t. not-both e (ap inLayout (batch-bad i h t))) (true-or-false (formed s i))
 
   pub batch-lies : inLayout (parse (times n updateField) s) ≡ true → (i : ℕ) → i < n → Lies s i
-  batch-lies e i h = formed-lies s i w (room i h) (batch-formed e i h)
+  batch-lies e i h = formed-lies s i w (omega arith) (batch-formed e i h)

@@ -1,5 +1,5 @@
 -- The updates of a batch by their numbers. Assumes nothing.
-use mathlib.Core.Path.{_≡_, refl, sym, ap, _∙_}
+use mathlib.Core.Path.{_≡_, refl, ap, _∙_}
 use mathlib.Core.Bool.{true, false}
 use mathlib.Core.List.{[], _∷_, _++_, map, map-append}
 use Prim.Native.Nat.{ℕ, suc, _+_, _-_, _*_, _≤_, _<_}
@@ -7,23 +7,19 @@ use native.Mathlib.Nat.{zero-add}
 use native.Mathlib.Numerals.{add-one}
 use native.Mathlib.Omega.{arith}
 use lib.ListN.{length, take, drop, getD, length-map, drop-of-length-le}
-use lib.Seq.{take-take, getD-drop, drop-drop, drop-cons}
+use lib.Seq.{drop-cons}
 use Rattle.paper.specs.Lists.{_∈_, upFrom, some}
 use Rattle.paper.specs.Bytes.{Bytes, same}
 use Rattle.paper.specs.Labelling.{plain, sameName}
 use Rattle.paper.specs.Table.{Update}
 use Rattle.paper.specs.Publish.{once}
 use Rattle.paper.proofs.Lists.{upFrom-length, upFrom-snoc, getD-upFrom, in-map, map-in, in-upFrom, upFrom-in}
-use Rattle.words.proofs.Pasted.{part-is}
-use Rattle.batch.specs.Places.{updateIn, updateAt, updatesIn, bearsFrom, Lies}
+use Rattle.record.proofs.Places.{filled-first}
+use Rattle.batch.specs.Places.{updateIn, updateAt, updatesIn, bearsFrom}
 
--- the part that is a name
-pub name-part : (s : Bytes) (i : ℕ) → Lies s i → take (i * 162 + 1 + getD s (i * 162) 0 - (i * 162 + 1)) (drop (i * 162 + 1) s) ≡ updateAt s i .name
+pub name-part : (s : Bytes) (i : ℕ) → take (getD s (i * 162) 0) (take 64 (drop (i * 162 + 1) s)) ≡ updateAt s i .name
 unfolding updateAt updateIn
-name-part s i h =
-    let n = getD s (i * 162) 0 in
-    let e : i * 162 + 0 ≡ i * 162 = omega arith in
-    part-is s (i * 162 + 1) n ∙ sym (rw (getD-drop (i * 162) s 0 0, e) (take-take n 64 (drop 1 (drop (i * 162) s)) (h .short) ∙ ap (take n) (drop-drop 1 (i * 162) s)))
+name-part s i = filled-first s (i * 162)
 
 pub updates-length : (n : ℕ) (s : Bytes) → length (updatesIn n s) ≡ n
 unfolding updatesIn

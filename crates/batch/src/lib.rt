@@ -1,5 +1,6 @@
 // A batch of updates, each of 162 bytes: "a record without version and epoch".
 use names::is_name;
+use record::filled_at;
 use table::filled;
 use words::same;
 ghost use mathlib.Core.Path.{_≡_};
@@ -16,10 +17,7 @@ pub fn name_in(s: &[u8], i: usize) -> &[u8]
     requires { ⌜ Lies (now s) i ⌝ }
     ensures { λ r. ⌜ now r ≡ updateAt (now (s .entry)) i .name ⌝ }
 {
-    let at = i * 162;
-    let start = at + 1;
-    let after = start + (s[at] as usize);
-    &s[start..after]
+    filled_at(s, i * 162)
 }
 
 // Whether update i is in layout. Its opening is any bytes.

@@ -1,4 +1,5 @@
--- Laws of lists in bit order, and of the trees over them.
+-- Laws of lists in bit order, of the trees over them, and of rows of leaves.
 pub mod Order
 pub mod Cut
 pub mod Sides
+pub mod Leaves

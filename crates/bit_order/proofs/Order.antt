@@ -1,14 +1,17 @@
 -- Of a list in bit order all keys share what its first and its last share, and go on past that. Assumes nothing.
-use mathlib.Core.Path.{_≡_, refl, ap, subst}
+use mathlib.Core.Path.{_≡_, refl, sym, ap, _∙_, subst}
 use mathlib.Core.Logic.{inl, inr, ⊎-elim}
-use mathlib.Core.Bool.{Bool, true, false}
+use mathlib.Core.Bool.{Bool, true, false, _&&_}
 use mathlib.Core.List.{List, [], _∷_, _++_}
 use Prim.Native.Nat.{_<_}
 use native.Mathlib.Omega.{arith}
 use lib.ListN.{length}
 use Rattle.paper.specs.Lists.{_∈_, All}
 use Rattle.paper.specs.Bits.{Bits, Pfx, _▹_, lcp}
+use Rattle.paper.specs.Strings.{Node}
+use Rattle.paper.specs.Tree.{key}
 use Rattle.paper.specs.Audit.{before?, inOrder, recordKey, AuditRecord}
+use Rattle.paper.specs.Level.{rising}
 use Rattle.paper.proofs.Lists.{and-left, and-right, and-both, all-in, in-all, all-left, all-right, all-append}
 use Rattle.paper.proofs.Bits.{pfx-refl, pfx-trans, pfx-snoc, pfx-next, pfx-length, pfx-compare, pfx-one-way, length-snoc, lcp-left, lcp-right}
 use Rattle.paper.proofs.Order.{Before, before-apart, before-trans, test-before}
@@ -81,28 +84,57 @@ module _ {A : Type 0} (key : A → Bits) where
       pick y b true v = v
       pick y b false v = absurd (before-once (key x) (key y) b (record { at = p; low = v; high = w }))
 
--- "Records stand in bit order and none is a prefix of another.": asked of neighbours, it holds of all
+-- ---- a test of neighbours
+
+module _ {A : Type 0} (key : A → Bits) (test : List A → Bool) (neighbours : (x y : A) (l : List A) → test (x ∷ y ∷ l) ≡ (before? (key x) (key y) && test (y ∷ l))) where
+  -- asked of neighbours, it holds of all
+  test-ordered : (l : List A) → test l ≡ true → Ordered key l
+  test-ordered [] e = tt
+  test-ordered (x ∷ []) e = (tt, tt)
+  test-ordered (x ∷ y ∷ l) e =
+      let f = sym (neighbours x y l) ∙ e in
+      let b = test-before (key x) (key y) (and-left _ _ f) in
+      let h = test-ordered (y ∷ l) (and-right (before? (key x) (key y)) _ f) in
+      ((b, in-all _ l (λ z m. before-trans (key x) (key y) (key z) b (all-in _ l (h .0) z m))), h)
+
+  -- a part of a list in order is in order
+  module _ (none : test [] ≡ true) (alone : (x : A) → test (x ∷ []) ≡ true) where
+    test-left : (l m : List A) → test (l ++ m) ≡ true → test l ≡ true
+    test-left [] m e = none
+    test-left (x ∷ []) m e = alone x
+    test-left (x ∷ y ∷ l) m e =
+        let b = before? (key x) (key y) in
+        let f = sym (neighbours x y (l ++ m)) ∙ e in
+        neighbours x y l ∙ and-both {a = b} (and-left b _ f) (test-left (y ∷ l) m (and-right b _ f))
+
+    test-right : (l m : List A) → test (l ++ m) ≡ true → test m ≡ true
+    test-right [] m e = e
+    test-right (x ∷ []) [] e = none
+    test-right (x ∷ []) (y ∷ m) e = and-right (before? (key x) (key y)) _ (sym (neighbours x y m) ∙ e)
+    test-right (x ∷ y ∷ l) m e = test-right (y ∷ l) m (and-right (before? (key x) (key y)) _ (sym (neighbours x y (l ++ m)) ∙ e))
+
+-- "Records stand in bit order and none is a prefix of another."
 pub in-order : (R : List AuditRecord) → inOrder R ≡ true → Ordered recordKey R
 unfolding inOrder
-in-order [] e = tt
-in-order (x ∷ []) e = (tt, tt)
-in-order (x ∷ y ∷ R) e =
-    let b = test-before (recordKey x) (recordKey y) (and-left _ _ e) in
-    let h = in-order (y ∷ R) (and-right (before? (recordKey x) (recordKey y)) _ e) in
-    ((b, in-all _ R (λ z m. before-trans (recordKey x) (recordKey y) (recordKey z) b (all-in _ R (h .0) z m))), h)
+in-order = test-ordered recordKey inOrder (λ x y l. refl)
 
--- a part of a list in order is in order
 pub order-left : (R Q : List AuditRecord) → inOrder (R ++ Q) ≡ true → inOrder R ≡ true
 unfolding inOrder
-order-left [] Q e = refl
-order-left (x ∷ []) Q e = refl
-order-left (x ∷ y ∷ R) Q e =
-    let b = before? (recordKey x) (recordKey y) in
-    and-both {a = b} (and-left b _ e) (order-left (y ∷ R) Q (and-right b _ e))
+order-left = test-left recordKey inOrder (λ x y l. refl) refl (λ x. refl)
 
 pub order-right : (R Q : List AuditRecord) → inOrder (R ++ Q) ≡ true → inOrder Q ≡ true
 unfolding inOrder
-order-right [] Q e = e
-order-right (x ∷ []) [] e = refl
-order-right (x ∷ []) (y ∷ Q) e = and-right (before? (recordKey x) (recordKey y)) _ e
-order-right (x ∷ y ∷ R) Q e = order-right (y ∷ R) Q (and-right (before? (recordKey x) (recordKey y)) _ e)
+order-right = test-right recordKey inOrder (λ x y l. refl) refl (λ x. refl)
+
+-- leaves in bit order
+pub rising-ordered : (S : List Node) → rising S ≡ true → Ordered key S
+unfolding rising
+rising-ordered = test-ordered key rising (λ x y l. refl)
+
+pub rising-left : (S T : List Node) → rising (S ++ T) ≡ true → rising S ≡ true
+unfolding rising
+rising-left = test-left key rising (λ x y l. refl) refl (λ x. refl)
+
+pub rising-right : (S T : List Node) → rising (S ++ T) ≡ true → rising T ≡ true
+unfolding rising
+rising-right = test-right key rising (λ x y l. refl) refl (λ x. refl)

@@ -1,15 +1,19 @@
--- Where two labels differ first, from their bits. Assumes nothing.
+-- Where two labels differ first, from their bits, and so whether the first bits of one begin the other. Assumes nothing.
 use mathlib.Core.Path.{_≡_, refl, sym, ap, _∙_}
+use mathlib.Core.Logic.{⊎-elim}
 use mathlib.Core.Bool.{Bool, true, false, not, Bool·beq}
 use mathlib.Core.List.{[], _∷_}
 use Prim.Native.Nat.{ℕ, zero, suc, _+_, _*_, _<_, _≤_}
 use native.Mathlib.Omega.{arith}
 use borrow.Author.Count.{below-more}
+use borrow.Author.Tests.{le-leb, leb-true}
+use lib.Dec.{leb}
 use lib.ListN.{length, take, getD, length-take}
-use lib.Seq.{getD-take}
+use lib.Seq.{getD-take, length-take-le}
 use Rattle.paper.specs.Bytes.{Bytes}
-use Rattle.paper.specs.Bits.{Bits, bitsOf, lcp, firstDifference}
+use Rattle.paper.specs.Bits.{Bits, Pfx, bitsOf, starts, lcp, firstDifference}
 use Rattle.paper.proofs.Lists.{not-both}
+use Rattle.paper.proofs.Bits.{pfx-refl, pfx-take, pfx-trans, pfx-full, pfx-length, pfx-compare, starts-pfx, pfx-starts, lcp-left, lcp-right, lcp-most}
 use Rattle.paper.proofs.Bytes.{bitsOf-length}
 use Rattle.bits.proofs.Bits.{take-bitsOf}
 
@@ -70,3 +74,24 @@ firstDifference-at a b r h ha hb same ends =
     lcp-length r (bitsOf (take 32 a)) (bitsOf (take 32 b)) (omega arith) (omega arith)
     (λ i l. label-bits a i (omega arith) ∙ same i l ∙ sym (label-bits b i (omega arith)))
     (λ l m e. ends (omega arith) (omega arith) (omega arith) (sym (label-bits a r (omega arith)) ∙ e ∙ label-bits b r (omega arith)))
+
+-- ---- prefixes by their lengths
+
+-- two tests that pass together are one
+pub both-ways : (a b : Bool) → (a ≡ true → b ≡ true) → (b ≡ true → a ≡ true) → a ≡ b
+both-ways true b f g = sym (f refl)
+both-ways false true f g = g refl
+both-ways false false f g = refl
+
+-- of two prefixes of one label the shorter is a prefix of the longer
+pub shorter : (p q x : Bits) → Pfx p x → Pfx q x → length p ≤ length q → Pfx p q
+shorter p q x h k l = ⊎-elim (λ u. u) (λ u. let e : q ≡ p = pfx-full u l in rw e (pfx-refl p)) (pfx-compare p q x h k)
+
+-- the first j bits of y begin x exactly where the two agree on j bits
+pub first-bits : (x y : Bits) (j : ℕ) → j ≤ length y → starts (take j y) x ≡ leb j (length (lcp x y))
+first-bits x y j h =
+    let n : length (take j y) ≡ j = length-take-le j y h in
+    both-ways (starts (take j y) x) (leb j (length (lcp x y)))
+    (λ e. le-leb j (length (lcp x y)) (omega (arith, pfx-length (lcp-most (take j y) x y (starts-pfx (take j y) x e) (pfx-take j y)))))
+    (λ e. let l = leb-true j (length (lcp x y)) e in
+    pfx-starts (take j y) x (pfx-trans (shorter (take j y) (lcp x y) y (pfx-take j y) (lcp-right x y) (omega arith)) (lcp-left x y)))

@@ -1,4 +1,5 @@
--- Laws of label bits, of prefixes in bytes and of the first difference.
+-- Laws of label bits, of prefixes in bytes, of the first difference and of a marker's power.
 pub mod Bits
 pub mod Pack
 pub mod Lcp
+pub mod Powers

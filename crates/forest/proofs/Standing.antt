@@ -11,7 +11,7 @@ use Rattle.paper.specs.Strings.{Node}
 use Rattle.paper.specs.Level.{leavesIn}
 use Rattle.arrange.specs.Arranged.{Arranged}
 use Rattle.gather.specs.Gathered.{Gained}
-use Rattle.gather.proofs.Row.{leaves-none, leaves-taken}
+use Rattle.bit_order.proofs.Leaves.{leaves-none, leaves-cut}
 use Rattle.tree.specs.Stored.{Sorted, Stored}
 use Rattle.tree.specs.declared.Sides.{Sides}
 use Rattle.forest.specs.Grown.{Standing}
@@ -32,7 +32,7 @@ module _ (S : List Node) (n : ℕ) (o g x : Bytes) (r : Bool) (gained : Gained o
   sized = size ∙ length-take-le (n * 68) g room
 
   gathered : leavesIn n (take (n * 68) g) ≡ S
-  gathered = leaves-taken n g room ∙ gained .leaves ∙ ap (λ (l : List Node). l ++ S) (leaves-none o)
+  gathered = leaves-cut n (n * 68) g (omega arith) ∙ gained .leaves ∙ ap (λ (l : List Node). l ++ S) (leaves-none o)
 
   -- the leaves are those that were gathered
   pub same-leaves : Arranged S (leavesIn n (take (n * 68) row)) r

@@ -2,10 +2,8 @@
 use mathlib.Core.Path.{_≡_, refl, sym, ap, _∙_}
 use mathlib.Core.Bool.{Bool, true, false}
 use mathlib.Core.List.{List, [], _∷_, _++_, append-nil, append-assoc, flatMap}
-use Prim.Native.Nat.{ℕ, zero, suc, _+_, _-_, _*_, _%_, _^_, _≤_, _<_}
+use Prim.Native.Nat.{ℕ, zero, suc, _+_, _-_, _*_, _^_, _≤_, _<_}
 use native.Mathlib.Omega.{arith}
-use native.Mathlib.Nat.{mod-eq-of-lt}
-use lib.Pow.{pow-mono}
 use native.Mathlib.Decide.{decLe, ℕ-discrete}
 use mathlib.Core.Logic.{by-cases}
 use lib.ListN.{length, take, drop, getD, length-take, length-append}
@@ -13,13 +11,12 @@ use borrow.Author.Tests.{eq-eqb, ne-eqb, le-leb, lt-leb, lt-ltb, le-ltb}
 use Rattle.fips.specs.Sha256.{sha256}
 use Rattle.paper.specs.Numbers.{wide}
 use Rattle.paper.specs.Bytes.{Bytes, zeros}
-use Rattle.paper.specs.Bits.{bitsOf, topPower, log2}
+use Rattle.paper.specs.Bits.{bitsOf, log2}
 use Rattle.paper.specs.Strings.{Node, leaf, labelString, commitmentString}
 use Rattle.paper.specs.Labelling.{plain}
 use Rattle.paper.specs.Lists.{keep}
 use Rattle.paper.specs.Table.{Record, byEpoch, allLeaves, oldLeaves}
 use Rattle.paper.proofs.Lists.{keep-append}
-use Rattle.paper.proofs.Marker.{log2-spec, pow-below}
 use Rattle.record.specs.Places.{recordIn, recordAt, recordsIn}
 use Rattle.record.proofs.Places.{records-none, records-snoc}
 use Rattle.gather.specs.Gathered.{leavesOf, leavesBy}
@@ -32,22 +29,6 @@ name-few s i = let t = drop (i * 168) s in omega (arith, length-take (getD t 0 0
 pub key-few : (s : Bytes) (i : ℕ) → length (recordAt s i .key) ≤ 64
 unfolding recordAt recordIn
 key-few s i = let t = drop (i * 168) s in omega (arith, length-take (getD t 71 0) (take 64 (drop 72 t)), length-take 64 (drop 72 t))
-
--- ---- the power of two at a version
-
-log2-zero : log2 0 ≡ 0
-unfolding log2 topPower
-log2-zero = refl
-
-pub marker-few : (v : ℕ) → v < 2 ^ 16 → log2 v ≤ 15
-marker-few zero h = omega (arith, log2-zero)
-marker-few (suc v) h = pow-below (log2 (suc v)) 15 (suc v) (log2-spec (suc v) (omega arith) (omega arith) .0) h
-
-pub marker-shift : (v j : ℕ) → v < 2 ^ 16 → j ≡ log2 v → 1 * 2 ^ j % 2 ^ 32 ≡ 2 ^ log2 v
-marker-shift v j h e =
-    let w : 2 ^ log2 v ≤ 2 ^ 15 = pow-mono {i = log2 v} {j = 15} (marker-few v h) in
-    let l : 1 * 2 ^ j ≡ 2 ^ log2 v = omega (arith, ap (λ i. 2 ^ i) e) in
-    rw l (mod-eq-of-lt (omega (arith, w)))
 
 -- ---- the leaves of a record
 

@@ -2,8 +2,7 @@
 use mathlib.Core.Path.{_≡_, refl, ap, _∙_}
 use mathlib.Core.Bool.{true, false}
 use mathlib.Core.List.{List, [], _∷_, map}
-use Prim.Native.Nat.{ℕ, zero, suc, _+_, _*_, _%_, _^_, _≤_, _<_}
-use native.Mathlib.Nat.{mod-eq-of-lt}
+use Prim.Native.Nat.{ℕ, zero, suc, _+_, _^_, _≤_}
 use native.Mathlib.Omega.{arith}
 use lib.ListN.{length, drop, length-append, length-map}
 use Rattle.paper.specs.Lists.{All}
@@ -20,7 +19,6 @@ use Rattle.paper.specs.Shows.{itemField, Proof, Terms, epochAt, commitmentAt, p
 use Rattle.paper.specs.Lookup.{lookupAsked, lookupKeys, lookupTerms, lookupStrings, lookupGives}
 use Rattle.paper.specs.declared.LookupAnswer.the-variants as L
 use Rattle.paper.proofs.Lists.{not-both}
-use Rattle.paper.proofs.Marker.{log2-spec, pow-below}
 use Rattle.paper.proofs.Layouts.{bytes-parse}
 use Rattle.paper.proofs.Proofs.{lookup-lawful, item-lawful, path-lawful}
 use Rattle.paper.proofs.Fits.{proof-fits}
@@ -57,15 +55,6 @@ some-walk s name start (suc v) t h = refl
 pub some-answer : (v t at d e : ℕ) → (v ≡ 0 → ⊥) → answerOf v t (On at d e) ≡ L.Found v t d
 some-answer zero t at d e h = absurd (h refl)
 some-answer (suc v) t at d e h = refl
-
--- its marker's number is small, and a shift by it is the least epoch of the marker
-pub marker-small : (v : ℕ) → 1 ≤ v → v < 2 ^ 16 → log2 v ≤ 15
-marker-small v h k = pow-below (log2 v) 15 v (log2-spec v h (omega arith) .0) k
-
-pub marker-shift : (v j : ℕ) → 1 ≤ v → v < 2 ^ 16 → j ≡ log2 v → 1 * 2 ^ j % 2 ^ 64 ≡ 2 ^ log2 v
-marker-shift v j h k e =
-    let l : 1 * 2 ^ j ≡ 2 ^ log2 v = omega (arith, ap (λ i. 2 ^ i) e) in
-    rw l (mod-eq-of-lt (omega (arith, log2-spec v h (omega arith) .0)))
 
 -- three paths one after the other, as they are taken
 pub registered-is : (s name : Bytes) (start v t j e least : ℕ) (own : Bytes) (shown gone marked : Asked) (first second third : Walk)

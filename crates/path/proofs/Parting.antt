@@ -1,7 +1,7 @@
 -- The rules of absence by the first difference: what stands at the end leaves the label behind bit k and before its own end. Assumes nothing.
 use mathlib.Core.Path.{_≡_, refl, sym, ap, _∙_}
 use mathlib.Core.Logic.{_⊎_, inl, inr, ⊎-elim, by-cases}
-use mathlib.Core.Bool.{Bool, true, false, not, _&&_}
+use mathlib.Core.Bool.{false, not, _&&_}
 use Prim.Native.Nat.{ℕ, suc, _+_, _-_, _≤_, _<_}
 use native.Mathlib.Omega.{arith}
 use native.Mathlib.Decide.{decLe}
@@ -10,38 +10,20 @@ use lib.ListN.{length, take, drop}
 use lib.Seq.{length-take-le, take-all}
 use borrow.Author.Tests.{le-leb, lt-leb, leb-true, leb-false, ltb-true, lt-ltb, le-ltb, eq-eqb}
 use Rattle.paper.specs.Bytes.{Bytes, number}
-use Rattle.paper.specs.Bits.{Bits, Pfx, bitsOf, starts, lcp, firstDifference}
+use Rattle.paper.specs.Bits.{Bits, bitsOf, starts, lcp, firstDifference}
 use Rattle.paper.specs.Path.{sameBits, absent, other, off}
 use Rattle.paper.proofs.Lists.{true-or-false, and-left, and-right, not-both}
-use Rattle.paper.proofs.Bits.{pfx-refl, pfx-take, pfx-trans, pfx-full, pfx-length, pfx-compare, starts-pfx, pfx-starts, lcp-left, lcp-right, lcp-most, lcp-comm}
+use Rattle.paper.proofs.Bits.{pfx-take, pfx-trans, starts-pfx, pfx-starts, lcp-comm}
 use Rattle.paper.proofs.Bytes.{bitsOf-length}
 use Rattle.words.proofs.Pasted.{length-part, rest-is}
+use Rattle.bits.proofs.Lcp.{both-ways, shorter, first-bits}
 use Rattle.path.specs.Places.{endIn, EndStands}
 use Rattle.path.specs.Taken.{absentBy, shownAt, parting}
 use Rattle.path.specs.declared.End.the-variants.{Other, Off}
 use Rattle.path.specs.declared.Shown.the-variants.{Absent, Neither}
 use Rattle.fields.proofs.Flat.{and-false}
 
--- two tests that pass together are one
-both-ways : (a b : Bool) → (a ≡ true → b ≡ true) → (b ≡ true → a ≡ true) → a ≡ b
-both-ways true b f g = sym (f refl)
-both-ways false true f g = g refl
-both-ways false false f g = refl
-
 -- ---- prefixes by their lengths
-
--- of two prefixes of one label the shorter is a prefix of the longer
-shorter : (p q x : Bits) → Pfx p x → Pfx q x → length p ≤ length q → Pfx p q
-shorter p q x h k l = ⊎-elim (λ u. u) (λ u. let e : q ≡ p = pfx-full u l in rw e (pfx-refl p)) (pfx-compare p q x h k)
-
--- the first j bits of y begin x exactly where the two agree on j bits
-first-bits : (x y : Bits) (j : ℕ) → j ≤ length y → starts (take j y) x ≡ leb j (length (lcp x y))
-first-bits x y j h =
-    let n : length (take j y) ≡ j = length-take-le j y h in
-    both-ways (starts (take j y) x) (leb j (length (lcp x y)))
-    (λ e. le-leb j (length (lcp x y)) (omega (arith, pfx-length (lcp-most (take j y) x y (starts-pfx (take j y) x e) (pfx-take j y)))))
-    (λ e. let l = leb-true j (length (lcp x y)) e in
-    pfx-starts (take j y) x (pfx-trans (shorter (take j y) (lcp x y) y (pfx-take j y) (lcp-right x y) (omega arith)) (lcp-left x y)))
 
 -- what is no longer than n bits begins x's first n bits exactly where it begins x
 within-bits : (p x : Bits) (n : ℕ) → length p ≤ n → n ≤ length x → starts p (take n x) ≡ starts p x

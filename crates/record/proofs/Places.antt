@@ -39,27 +39,22 @@ record-front s =
 pub record-append : (a b : Bytes) → recordSize ≤ length a → recordIn (a ++ b) ≡ recordIn a
 record-append a b h = sym (record-front (a ++ b)) ∙ ap recordIn (take-append-le recordSize a b h) ∙ record-front a
 
+-- a length and behind it so many of 64 bytes
+pub filled-part : (s : Bytes) (at : ℕ) → getD s at 0 ≤ 64 → take (at + 1 + getD s at 0 - (at + 1)) (drop (at + 1) s) ≡ take (getD s at 0) (take 64 (drop (at + 1) s))
+filled-part s at h = part-is s (at + 1) (getD s at 0) ∙ sym (take-take (getD s at 0) 64 (drop (at + 1) s) h)
+
+-- at the start of what lies from `at` on
+pub filled-first : (s : Bytes) (at : ℕ) → take (getD s at 0) (take 64 (drop (at + 1) s)) ≡ take (getD (drop at s) 0 0) (take 64 (drop 1 (drop at s)))
+filled-first s at = let e : at + 0 ≡ at = omega arith in sym (rw (getD-drop at s 0 0, drop-drop 1 at s, e))
+
 -- the fields of record i, as they are read from the table
-module _ (s : Bytes) (i : ℕ) (h : Stands s i) where
-  -- a length at `at`, and behind it so many of 64 bytes
-  part : (at : ℕ) → i * recordSize + at < length s → getD s (i * recordSize + at) 0 ≤ 64
-      → take (i * recordSize + at + 1 + getD s (i * recordSize + at) 0 - (i * recordSize + at + 1)) (drop (i * recordSize + at + 1) s)
-      ≡ take (getD (drop (i * recordSize) s) at 0) (take 64 (drop (at + 1) (drop (i * recordSize) s)))
-  part at l m =
-      let k = i * recordSize + at in
-      let e : i * recordSize + (at + 1) ≡ k + 1 = omega arith in
-      part-is s (k + 1) (getD s k 0)
-      ∙ sym (rw (getD-drop (i * recordSize) s at 0, drop-drop (at + 1) (i * recordSize) s, e) (take-take (getD s k 0) 64 (drop (k + 1) s) m))
+pub name-part : (s : Bytes) (i : ℕ) → take (getD s (i * recordSize) 0) (take 64 (drop (i * recordSize + 1) s)) ≡ recordAt s i .name
+unfolding recordAt recordIn
+name-part s i = filled-first s (i * recordSize)
 
-  pub name-part : take (i * recordSize + 1 + getD s (i * recordSize) 0 - (i * recordSize + 1)) (drop (i * recordSize + 1) s) ≡ recordAt s i .name
-  unfolding recordAt recordIn
-  name-part =
-      let e : i * recordSize + 0 ≡ i * recordSize = omega arith in
-      rw e at (part 0 (omega (arith, h .reach)) (rw e (h .name-short)))
-
-  pub key-part : take (i * recordSize + 71 + 1 + getD s (i * recordSize + 71) 0 - (i * recordSize + 71 + 1)) (drop (i * recordSize + 71 + 1) s) ≡ recordAt s i .key
-  unfolding recordAt recordIn
-  key-part = part 71 (omega (arith, h .reach)) (h .key-short)
+pub key-part : (s : Bytes) (i : ℕ) → take (getD s (i * recordSize + 71) 0) (take 64 (drop (i * recordSize + 71 + 1) s)) ≡ recordAt s i .key
+unfolding recordAt recordIn
+key-part s i = let e : i * recordSize + 71 + 1 ≡ i * recordSize + 72 = omega arith in rw (getD-drop (i * recordSize) s 71 0, drop-drop 72 (i * recordSize) s, e)
 
 pub version-part : (s : Bytes) (i : ℕ) → number (take 2 (drop (i * recordSize + 65) s)) ≡ recordAt s i .version
 unfolding recordAt recordIn

@@ -5,17 +5,26 @@ use words::digest_at;
 use words::read16;
 use words::read32;
 ghost use mathlib.Core.Path.{_≡_};
+ghost use Prim.Native.Nat.{_+_, _≤_};
+ghost use lib.ListN.{length, take, drop, getD};
 ghost use Rattle.record.specs.Places.{recordAt, Stands};
+
+// A length and behind it so many of 64 bytes, at a place: the bytes, as a part of the slice.
+pub fn filled_at(s: &[u8], at: usize) -> &[u8]
+    requires { ⌜ (at + 65 ≤ length (now s)) × (getD (now s) at 0 ≤ 64) ⌝ }
+    ensures { λ r. ⌜ now r ≡ take (getD (now (s .entry)) at 0) (take 64 (drop (at + 1) (now (s .entry)))) ⌝ }
+{
+    let start = at + 1;
+    let after = start + (s[at] as usize);
+    &s[start..after]
+}
 
 // The name of record i, as a part of the table.
 pub fn name_at(s: &[u8], i: usize) -> &[u8]
     requires { ⌜ Stands (now s) i ⌝ }
     ensures { λ r. ⌜ now r ≡ recordAt (now (s .entry)) i .name ⌝ }
 {
-    let at = i * 168;
-    let start = at + 1;
-    let after = start + (s[at] as usize);
-    &s[start..after]
+    filled_at(s, i * 168)
 }
 
 // The version of record i.
@@ -39,10 +48,7 @@ pub fn key_at(s: &[u8], i: usize) -> &[u8]
     requires { ⌜ Stands (now s) i ⌝ }
     ensures { λ r. ⌜ now r ≡ recordAt (now (s .entry)) i .key ⌝ }
 {
-    let at = i * 168 + 71;
-    let start = at + 1;
-    let after = start + (s[at] as usize);
-    &s[start..after]
+    filled_at(s, i * 168 + 71)
 }
 
 // The opening of record i.

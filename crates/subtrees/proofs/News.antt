@@ -23,8 +23,9 @@ use Rattle.paper.proofs.Tree.{Free, common-most, common-next, side-all, side-be
 use Rattle.paper.proofs.Walk.{no-starts}
 use Rattle.bit_order.proofs.Sides.{ordered-free}
 use Rattle.tree.specs.Stored.{flat, Sorted, Range}
-use Rattle.tree.proofs.Leaves.{leaves-length, leaves-long, leaf-at, long-short, bare, single}
-use Rattle.tree.proofs.Rising.{rising-ordered}
+use Rattle.bit_order.proofs.Leaves.{leaves-length, leaves-long, leaf-at}
+use Rattle.tree.proofs.Leaves.{long-short, bare, single}
+use Rattle.bit_order.proofs.Order.{rising-ordered}
 use Rattle.tree.proofs.Halves.{before, behind, RootHalves, before-sorted, behind-sorted}
 use Rattle.tree.proofs.Slots.{slot-wide}
 use Rattle.tree.proofs.Flat.{flat-size}

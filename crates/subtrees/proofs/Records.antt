@@ -1,17 +1,17 @@
 -- The bytes of an audit's records, how many they are, and that they are written one right behind the other. Assumes nothing.
 use mathlib.Core.Path.{_≡_, refl, sym, ap, ap₂, _∙_}
 use mathlib.Core.Bool.{Bool, true, false, cond, _||_}
-use mathlib.Core.List.{List, [], _∷_, _++_, append-nil, append-assoc}
+use mathlib.Core.List.{[], _∷_, _++_, append-assoc}
 use Prim.Native.Nat.{ℕ, zero, suc, _+_, _*_, _≤_}
 use native.Mathlib.Omega.{arith}
 use lib.Dec.{eqb}
-use lib.ListN.{length, take, drop, set, length-append, length-drop, take-append-drop}
+use lib.ListN.{length, take, drop, set, length-append, length-drop}
 use lib.Seq.{length-take-le}
 use Rattle.paper.specs.Lists.{All}
 use Rattle.paper.specs.Numbers.{wide}
 use Rattle.paper.specs.Bytes.{Bytes, Bytewise, be, number, zeros, pasted}
 use Rattle.paper.specs.Bits.{Bits, bitsOf, pack, _▹_}
-use Rattle.paper.specs.Strings.{Node, leaf, inner, nothing, nodeString}
+use Rattle.paper.specs.Strings.{Node, leaf, inner, nothing}
 use Rattle.paper.specs.Tree.{digest, Tree, empty, one, fork, top, side, build, root}
 use Rattle.paper.specs.Layout.{block, fixed, within, seq, led, times, timesBytes, such, view}
 use Rattle.paper.specs.Audit.{unchanged, opened, fresh, recordOf, auditRecordField, listField}
@@ -21,11 +21,11 @@ use Rattle.paper.proofs.Lists.{all-in, in-all, all-left, all-right}
 use Rattle.paper.proofs.Bytes.{be-length, pack-length}
 use Rattle.paper.proofs.Tree.{side-in}
 use Rattle.paper.proofs.Way.{entries, build-entries}
-use Rattle.paper.proofs.Fits.{digest-wide}
-use Rattle.words.proofs.Pasted.{length-part, pasted-none, pasted-one}
-use Rattle.tree_path.specs.Written.{Wrote}
-use Rattle.tree_path.proofs.Ends.{leaf-fields}
-use Rattle.tree_path.proofs.Writing.{laid-next, wrote-next}
+use Rattle.words.proofs.Pasted.{length-part, pasted-none}
+use Rattle.tree.proofs.Slots.{slot-wide}
+use Rattle.tree_path.specs.Written.{nodeBytes, Wrote}
+use Rattle.tree_path.proofs.Ends.{leaf-fields, node-long}
+use Rattle.tree_path.proofs.Writing.{times-append, times-one, wrote-next, record-wrote}
 use Rattle.subtrees.specs.Listed.{treeBytes}
 use Rattle.subtrees.proofs.News.{no-trees, old-fork, new-fork, root-fork}
 
@@ -39,18 +39,9 @@ fresh-bytes : (m : Bits) (c : Bytes) (e : ℕ) → auditRecordField .bytes (fres
 unfolding led within recordOf view seq fixed block be
 fresh-bytes m c e = refl
 
-opened-bytes : (p : Bits) (l r : Bytes) → auditRecordField .bytes (opened p l r) ≡ 1 ∷ ((be 2 (length p) ++ pack wide p) ++ (l ++ r))
+opened-bytes : (p : Bits) (l r : Bytes) → auditRecordField .bytes (opened p l r) ≡ 1 ∷ nodeBytes p (l ++ r)
 unfolding led within recordOf view seq such block be
 opened-bytes p l r = refl
-
-times-append : {A : Type 0} (f : A → Bytes) (l m : List A) → timesBytes f (l ++ m) ≡ timesBytes f l ++ timesBytes f m
-unfolding timesBytes
-times-append f [] m = refl
-times-append f (x ∷ l) m = ap (λ y. f x ++ y) (times-append f l m) ∙ sym (append-assoc (f x) (timesBytes f l) (timesBytes f m))
-
-times-one : {A : Type 0} (f : A → Bytes) (x : A) → timesBytes f (x ∷ []) ≡ f x
-unfolding timesBytes
-times-one f x = append-nil (f x)
 
 module _ (t : ℕ) where
   pub none-bytes : (n : ℕ) (s : Bytes) → n ≡ 0 → treeBytes t (build 256 (leavesIn n s)) ≡ []
@@ -66,9 +57,12 @@ module _ (t : ℕ) where
       by false = times-one (auditRecordField .bytes) (unchanged m c e) ∙ unchanged-bytes m c e
 
   module _ (T : Tree) (p : Bits) (l r : Tree) (e : T ≡ fork p l r) where
-    pub old-bytes : hasNew t T ≡ false → treeBytes t T ≡ auditRecordField .bytes (opened p (digest (top l)) (digest (top r)))
+    pub old-bytes : hasNew t T ≡ false → treeBytes t T ≡ 1 ∷ nodeBytes p (digest (top l) ++ digest (top r))
     unfolding treeBytes
-    old-bytes h = ap (timesBytes (auditRecordField .bytes)) (old-fork t T p l r e h) ∙ times-one (auditRecordField .bytes) (opened p (digest (top l)) (digest (top r)))
+    old-bytes h =
+        ap (timesBytes (auditRecordField .bytes)) (old-fork t T p l r e h)
+        ∙ times-one (auditRecordField .bytes) (opened p (digest (top l)) (digest (top r)))
+        ∙ opened-bytes p (digest (top l)) (digest (top r))
 
     pub new-bytes : hasNew t T ≡ true → treeBytes t T ≡ treeBytes t l ++ treeBytes t r
     unfolding treeBytes
@@ -105,17 +99,6 @@ list-wrote o v u w x y z at mid r count h l e f g q =
 pub wrote-none : (o x : Bytes) (at : ℕ) → x ≡ [] → Wrote o at x o at
 wrote-none o x at e = record { laid = sym (ap (pasted o at) e ∙ pasted-none o at); behind = omega (arith, ap length e) }
 
--- kind, length, label or prefix, and the rest of a record
-record-wrote : (o a b c x y z : Bytes) (at kind next : ℕ) → at + 99 ≤ length o → length x ≡ 2 → next ≡ at + 3 + length y → length y + length z ≡ 96
-    → a ≡ pasted (set o at kind) (at + 1) x → b ≡ pasted a (at + 3) y → c ≡ pasted b next z → Wrote o at (kind ∷ ((x ++ y) ++ z)) c (at + 99)
-record-wrote o a b c x y z at kind next h l n m ea eb ec =
-    let first = laid-next o (set o at kind) a (kind ∷ []) x at (at + 1) (omega arith) (pasted-one o at kind (omega arith)) (omega arith) ea in
-    let second = laid-next o a b (kind ∷ x) y at (at + 3) (omega arith) first (omega arith) eb in
-    record {
-      laid = laid-next o b c (kind ∷ (x ++ y)) z at next (omega arith) second (omega (arith, length-append x y)) ec;
-      behind = omega (arith, length-append x y, length-append (x ++ y) z);
-    }
-
 pub leaf-wrote : (o a b c fill s : Bytes) (at kind t : ℕ) → at + 99 ≤ length o → 68 ≤ length s → Bytewise s → kind ≡ cond (hasNew t (one (entryLeaf s))) 2 0 → fill ≡ zeros 28
     → a ≡ pasted (set o at kind) (at + 1) (be 2 256) → b ≡ pasted a (at + 3) (take 68 s) → c ≡ pasted b (at + 71) fill → Wrote o at (treeBytes t (one (entryLeaf s))) c (at + 99)
 leaf-wrote o a b c fill s at kind t h l w k f ea eb ec =
@@ -123,15 +106,6 @@ leaf-wrote o a b c fill s at kind t h l w k f ea eb ec =
     let g = record-wrote o a b c (be 2 256) (take 68 s) (zeros 28) at kind (at + 71) h (be-length 2 256) (omega arith) (omega arith) ea eb (ec ∙ ap (pasted b (at + 71)) f) in
     let whole : kind ∷ ((be 2 256 ++ take 68 s) ++ zeros 28) ≡ treeBytes t (one (entryLeaf s)) =
     ap₂ {C = Bytes} (λ i x. i ∷ x) k (append-assoc (be 2 256) (take 68 s) (zeros 28)) ∙ sym (entry-bytes t s l w) in
-    record { laid = g .laid ∙ ap (pasted o at) whole; behind = g .behind ∙ ap (λ x. at + length x) whole }
-
-pub opened-wrote : (o a b c slot : Bytes) (at k : ℕ) (p : Bits) → at + 99 ≤ length o → length p ≡ k → length slot ≡ 64
-    → a ≡ pasted (set o at 1) (at + 1) (be 2 k) → b ≡ pasted a (at + 3) (pack wide p) → c ≡ pasted b (at + 35) slot → Wrote o at (auditRecordField .bytes (opened p (take 32 slot) (drop 32 slot))) c (at + 99)
-opened-wrote o a b c slot at k p h n l ea eb ec =
-    let size = pack-length wide p in
-    let g = record-wrote o a b c (be 2 k) (pack wide p) slot at 1 (at + 35) h (be-length 2 k) (omega arith) (omega arith) ea eb ec in
-    let whole : 1 ∷ ((be 2 k ++ pack wide p) ++ slot) ≡ auditRecordField .bytes (opened p (take 32 slot) (drop 32 slot)) =
-    ap₂ (λ i x. 1 ∷ ((be 2 i ++ pack wide p) ++ x)) (sym n) (sym (take-append-drop 32 slot)) ∙ sym (opened-bytes p (take 32 slot) (drop 32 slot)) in
     record { laid = g .laid ∙ ap (pasted o at) whole; behind = g .behind ∙ ap (λ x. at + length x) whole }
 
 -- ---- sizes: "records of 99 bytes"
@@ -150,16 +124,6 @@ leaf-size t m c e h = ap length (leaf-bytes t m c e) ∙ omega (
 
 pub entry-size : (t : ℕ) (s : Bytes) → 68 ≤ length s → length (treeBytes t (one (entryLeaf s))) ≡ 99
 entry-size t s h = leaf-size t (bitsOf (take 32 s)) (take 32 (drop 32 s)) (number (take 4 (drop 64 s))) (length-part s 32 32 (omega arith))
-
-pub opened-size : (p : Bits) (l r : Bytes) → length l ≡ 32 → length r ≡ 32 → length (auditRecordField .bytes (opened p l r)) ≡ 99
-opened-size p l r hl hr = ap length (opened-bytes p l r) ∙ omega (
-  arith,
-  length-append (be 2 (length p) ++ pack wide p) (l ++ r),
-  length-append (be 2 (length p)) (pack wide p),
-  length-append l r,
-  be-length 2 (length p),
-  pack-length wide p,
-)
 
 -- a leaf with a commitment of 32 bytes
 abbrev Held : Node → Type 0
@@ -183,7 +147,8 @@ tree-size t (fork p l r) h = by (hasNew t l || hasNew t r) (tree-size t l (all-l
       length-append (subtrees t l) (subtrees t r),
     )
     by false x y = ap length (times-one (auditRecordField .bytes) (opened p (digest (top l)) (digest (top r))))
-        ∙ opened-size p (digest (top l)) (digest (top r)) (digest-wide (nodeString (top l)) .size) (digest-wide (nodeString (top r)) .size)
+        ∙ ap length (opened-bytes p (digest (top l)) (digest (top r)))
+        ∙ omega (arith, node-long p (digest (top l) ++ digest (top r)), slot-wide l r)
 
 leaves-held : (n : ℕ) (s : Bytes) → n * 68 ≤ length s → All Held (leavesIn n s)
 unfolding leavesIn

@@ -1,10 +1,9 @@
 // Writing the list of an audit into a lent output, from its count on.
 use crate::count::has_new;
 use crate::count::list_length;
-use bits::prefix_of;
 use tree::Sides;
 use tree::fork_of;
-use tree::label_of;
+use tree_path::write_node;
 use words::put;
 use words::read32;
 use words::write16;
@@ -12,11 +11,11 @@ use words::write32;
 ghost use mathlib.Core.Path.{_≡_};
 ghost use mathlib.Core.Bool.{cond};
 ghost use Prim.Native.Nat.{_+_, _*_, _-_, _≤_};
-ghost use lib.ListN.{length, take, drop};
+ghost use lib.ListN.{length, take};
 ghost use Rattle.paper.specs.Numbers.{auditMost};
 ghost use Rattle.paper.specs.Bytes.{zeros};
-ghost use Rattle.paper.specs.Tree.{key, one, build, root};
-ghost use Rattle.paper.specs.Audit.{opened, auditRecordField, listField};
+ghost use Rattle.paper.specs.Tree.{one, build, root};
+ghost use Rattle.paper.specs.Audit.{listField};
 ghost use Rattle.paper.specs.Write.{hasNew, belowRoot};
 ghost use Rattle.paper.specs.Level.{entryLeaf, leavesIn};
 ghost use Rattle.tree.specs.Stored.{flat, Sorted, Range, Stored};
@@ -53,18 +52,6 @@ fn write_leaf(s: &[u8], epoch: u32, out: &mut [u8], at: usize) -> usize
     at + 99
 }
 
-// "1 an unchanged inner node (length 1 to 255)"; "for kind 1 two digests", which are the slot.
-fn write_opened(s: &[u8], k: usize, slot: &[u8], out: &mut [u8], at: usize) -> usize
-    requires { ⌜ (68 ≤ length (now s)) × (k ≤ 255) × (length (now slot) ≡ 64) × (at + 99 ≤ length (now out)) ⌝ }
-    ensures { λ r. ⌜ Wrote (now (out .entry)) at (auditRecordField .bytes (opened (take k (key (entryLeaf (now (s .entry))))) (take 32 (now (slot .entry))) (drop 32 (now (slot .entry))))) (now (out .exit)) r ⌝ }
-{
-    out[at] = 1;
-    write16(out, at + 1, k as u16);
-    put(out, at + 3, &prefix_of(label_of(s, 0), k));
-    put(out, at + 35, slot);
-    at + 99
-}
-
 // The records below the root, at `at`. Each part shares more bits than the whole did: at most 256 calls stand within one another.
 fn write_below(
     s: &[u8],
@@ -87,7 +74,8 @@ fn write_below(
     let slot = (m - 1) * 64;
     let behind = m * 64;
     if !has_new(s, n, epoch) {
-        return write_opened(s, k, &slots[slot..behind], out, at);
+        // "1 an unchanged inner node (length 1 to 255)"; "for kind 1 two digests", which are the slot.
+        return write_node(1, s, k, &slots[slot..behind], out, at);
     }
     let middle = m * 68;
     let next = write_below(&s[..middle], m, k + 1, &slots[..slot], epoch, out, at);

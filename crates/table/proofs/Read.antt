@@ -1,24 +1,24 @@
 -- The counted records: they are read just where they lie in the table and each is in layout, and are those that stand there. Assumes
 -- nothing.
 use mathlib.Core.Path.{_≡_, refl, sym, ap, ap₂, _∙_}
-use mathlib.Core.Logic.{⊎-elim, by-cases}
+use mathlib.Core.Logic.{⊎-elim}
 use mathlib.Core.Bool.{true, false}
-use mathlib.Core.List.{List, [], _∷_, map, append-nil}
-use Prim.Native.Nat.{ℕ, zero, suc, _+_, _-_, _*_, _≤_, _<_}
+use mathlib.Core.List.{List, [], _∷_, append-nil}
+use Prim.Native.Nat.{ℕ, _+_, _-_, _*_, _≤_, _<_}
 use native.Mathlib.Omega.{arith}
-use native.Mathlib.Decide.{ℕ-discrete}
 use lib.ListN.{length, take, drop, getD, length-take, length-drop, drop-of-length-le}
-use lib.Seq.{getD-take, drop-drop, take-take, length-take-le}
-use Rattle.paper.specs.Lists.{All, upFrom}
+use lib.Seq.{getD-take, take-take, length-take-le}
+use Rattle.paper.specs.Lists.{All}
 use Rattle.paper.specs.Numbers.{recordSize}
 use Rattle.paper.specs.Bytes.{Bytes, Bytewise}
-use Rattle.paper.specs.Layout.{Read, got, bad, andThen, times, timesRead, whole, inLayout}
+use Rattle.paper.specs.Layout.{Read, got, bad, times, whole}
 use Rattle.paper.specs.Table.{Record, recordField, counted}
-use Rattle.paper.proofs.Lists.{all-take, all-drop, drop-take, not-both, true-or-false}
+use Rattle.paper.proofs.Lists.{all-take, all-drop, drop-take, true-or-false}
 use Rattle.paper.proofs.Layouts.{times-lawful, bytes-parse}
 use Rattle.paper.proofs.Proofs.{record-lawful}
 use Rattle.paper.proofs.Kept.{records-length}
-use Rattle.fields.proofs.Flat.{flat-in, flat-yes, flat-got}
+use Rattle.fields.proofs.Flat.{flat-in}
+use Rattle.fields.proofs.Many.{many-yes, many-no}
 use Rattle.record.specs.Places.{recordAt, recordsIn, Stands}
 use Rattle.record.proofs.Places.{records-take}
 use Rattle.record.proofs.Form.{filledTest, filledIn, recordTest, record-flat, records-back}
@@ -67,47 +67,6 @@ module _ (s : Bytes) (w : Bytewise s) (n : ℕ) (room : n * recordSize ≤ lengt
       ∙ test-take k h
       ∙ sym (flat-in record-flat (drop (k * recordSize) s) (all-drop _ (k * recordSize) s w) (omega (arith, length-drop (k * recordSize) s)))
 
--- ---- one record after the other
-
-not-in : {A : Type 0} (m : Read A) → inLayout m ≡ false → m ≡ bad
-not-in (got x r) e = not-both refl e
-not-in bad e = refl
-
-module _ (t : Bytes) (w : Bytewise t) where
-  abbrev rest : ℕ → Bytes
-  rest i = drop (i * recordSize) t
-
-  rest-bytes : (i : ℕ) → Bytewise (rest i)
-  rest-bytes i = all-drop _ (i * recordSize) t w
-
-  rest-suc : (i : ℕ) → drop recordSize (rest i) ≡ rest (suc i)
-  rest-suc i = let e : i * recordSize + recordSize ≡ suc i * recordSize = omega arith in drop-drop recordSize (i * recordSize) t ∙ ap (λ k. drop k t) e
-
-  times-got : (n i : ℕ) → (i + n) * recordSize ≤ length t → ((k : ℕ) → i ≤ k → k < i + n → formed t k ≡ true)
-      → timesRead (recordField .read) n (rest i) ≡ got (map (recordAt t) (upFrom i n)) (rest (i + n))
-  unfolding timesRead upFrom recordAt
-  times-got zero i h f = let e : i ≡ i + 0 = omega arith in ap (λ k. got [] (rest k)) e
-  times-got (suc n) i h f =
-      let l : recordSize ≤ length (rest i) = omega (arith, length-drop (i * recordSize) t) in
-      let o = flat-yes record-flat (rest i) (rest-bytes i) l (sym (flat-in record-flat (rest i) (rest-bytes i) l) ∙ f i (omega arith) (omega arith)) in
-      let e : suc i + n ≡ i + suc n = omega arith in
-      let g = times-got n (suc i) (omega arith) (λ k a b. f k (omega arith) (omega arith)) in
-      rw (o, rest-suc i, g, e)
-
-  times-bad : (n i k : ℕ) → (i + n) * recordSize ≤ length t → i ≤ k → k < i + n → formed t k ≡ false → timesRead (recordField .read) n (rest i) ≡ bad
-  unfolding timesRead
-  times-bad zero i k h a b f = absurd (omega arith)
-  times-bad (suc n) i k h a b f = by-cases (ℕ-discrete k i)
-      (λ e. rw (not-in (recordField .read (rest i)) (rw e at f)))
-      (λ e. by (recordField .read (rest i)) refl (times-bad n (suc i) k (omega arith) (omega arith) (omega arith) f))
-    where
-      by : (m : Read Record) → recordField .read (rest i) ≡ m → timesRead (recordField .read) n (rest (suc i)) ≡ bad
-          → andThen m (λ x r. andThen (timesRead (recordField .read) n r) (λ l q. got (x ∷ l) q)) ≡ bad
-      by bad e g = refl
-      by (got x r) e g =
-          let d : rest (suc i) ≡ r = sym (rest-suc i) ∙ flat-got record-flat (rest i) (rest-bytes i) x r e .3 in
-          ap (λ u. andThen (timesRead (recordField .read) n u) (λ l q. got (x ∷ l) q)) (sym d) ∙ rw g
-
 -- ---- the counted records
 
 module _ (s : Bytes) (w : Bytewise s) (n : ℕ) where
@@ -146,21 +105,17 @@ module _ (s : Bytes) (w : Bytewise s) (n : ℕ) where
 
   module _ (room : n * recordSize ≤ length s) where
     pub counted-got : ((k : ℕ) → k < n → formed s k ≡ true) → counted s n ≡ got (recordsIn n s) []
-    unfolding counted times recordsIn
+    unfolding counted times recordsIn recordAt
     counted-got f =
         let t = front s w n room in
-        let l = front-size s w n room in
-        let e : 0 + n ≡ n = omega arith in
-        let g = times-got t (all-take _ (n * recordSize) s w) n 0 (omega (arith, l)) (λ k a b. front-formed s w n room k (omega arith) ∙ f k (omega arith)) in
-        let h : length t ≤ n * recordSize = omega (arith, l) in
-        ap whole (g ∙ ap₂ got (records-take n s (n * recordSize) (omega arith)) (ap (λ k. drop (k * recordSize) t) e ∙ drop-of-length-le t h))
+        let h : length t ≤ n * recordSize = omega (arith, front-size s w n room) in
+        let g = many-yes record-flat t (all-take _ (n * recordSize) s w) n (omega (arith, front-size s w n room)) (λ k l. front-formed s w n room k l ∙ f k l) in
+        ap whole (g ∙ ap₂ got (records-take n s (n * recordSize) (omega arith)) (drop-of-length-le t h))
 
     pub counted-bad : (k : ℕ) → k < n → formed s k ≡ false → counted s n ≡ bad
     unfolding counted times
     counted-bad k h f =
-        let t = front s w n room in
-        let l = front-size s w n room in
-        ap whole (times-bad t (all-take _ (n * recordSize) s w) n 0 k (omega (arith, l)) (omega arith) (omega arith) (front-formed s w n room k h ∙ f))
+        ap whole (many-no record-flat (front s w n room) (all-take _ (n * recordSize) s w) n (omega (arith, front-size s w n room)) k h (front-formed s w n room k h ∙ f))
 
   -- so each that was read stands
   pub counted-stands : (rs : List Record) (r : Bytes) → counted s n ≡ got rs r → (k : ℕ) → k < n → Stands s k

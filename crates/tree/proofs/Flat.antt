@@ -21,8 +21,9 @@ use Rattle.paper.proofs.Fits.{digest-wide}
 use Rattle.bit_order.proofs.Sides.{ordered-free}
 use Rattle.words.proofs.Pasted.{rest-is}
 use Rattle.tree.specs.Stored.{flat, Sorted, Range}
-use Rattle.tree.proofs.Leaves.{leaves-length, leaves-long, long-short, leaves-some}
-use Rattle.tree.proofs.Rising.{rising-ordered}
+use Rattle.bit_order.proofs.Leaves.{leaves-length, leaves-long}
+use Rattle.tree.proofs.Leaves.{long-short, leaves-some}
+use Rattle.bit_order.proofs.Order.{rising-ordered}
 use Rattle.tree.proofs.Slots.{slot-wide}
 use Rattle.tree.proofs.Halves.{before, behind, Halves, before-sorted, behind-sorted}
 

@@ -1,20 +1,20 @@
 -- The two parts of leaves in order, as parts of their bytes: each is in order, and the tree over all is a fork of the trees over them.
 -- Assumes nothing.
 use mathlib.Core.Path.{_≡_, sym, ap, ap₂, _∙_, subst}
-use mathlib.Core.List.{[]}
+use mathlib.Core.List.{[], _++_}
 use Prim.Native.Nat.{ℕ, _+_, _-_, _*_, _≤_, _<_}
 use native.Mathlib.Omega.{arith}
 use lib.ListN.{length, take, drop, getD, length-drop}
-use lib.Seq.{length-take-le, take-take}
+use lib.Seq.{length-take-le, take-take, take-at, drop-at}
 use Rattle.paper.specs.Bytes.{Bytes}
 use Rattle.paper.specs.Bits.{bitsOf, lcp, firstDifference}
 use Rattle.paper.specs.Strings.{nothing}
 use Rattle.paper.specs.Tree.{key, fork, build, root}
-use Rattle.paper.specs.Level.{entryLeaf, leavesIn}
+use Rattle.paper.specs.Level.{entryLeaf, leavesIn, rising}
 use Rattle.words.proofs.Pasted.{rest-is}
+use Rattle.bit_order.proofs.Order.{rising-ordered, rising-left, rising-right}
+use Rattle.bit_order.proofs.Leaves.{leaves-length, leaves-long, leaf-at, leaves-split}
 use Rattle.tree.specs.Stored.{Sorted, Range, Cut, Forked}
-use Rattle.tree.proofs.Leaves.{leaves-length, leaves-take, leaves-drop, leaf-at, leaves-long}
-use Rattle.tree.proofs.Rising.{rising-ordered, rising-take, rising-drop}
 use Rattle.tree.proofs.Step.{left-range, right-range, deeper, fork-tree, root-step}
 
 -- the parts &s[.. m * 68] and &s[m * 68 ..]
@@ -25,22 +25,25 @@ abbrev pub behind : ℕ → Bytes → Bytes
 behind m s = take (length s - m * 68) (drop (m * 68) s)
 
 module _ (n : ℕ) (s : Bytes) (w : Sorted n s) (m : ℕ) (h : m ≤ n) where
+  parts : leavesIn n s ≡ leavesIn m (before m s) ++ leavesIn (n - m) (behind m s)
+  parts = leaves-split m n s h ∙ ap (λ b. leavesIn m (before m s) ++ leavesIn (n - m) b) (sym (rest-is s (m * 68)))
+
   pub before-leaves : leavesIn m (before m s) ≡ take m (leavesIn n s)
-  before-leaves = leaves-take m n s h
+  before-leaves = sym (ap (take m) parts ∙ take-at _ _ m (leaves-length m (before m s)))
 
   pub behind-leaves : leavesIn (n - m) (behind m s) ≡ drop m (leavesIn n s)
-  behind-leaves = ap (leavesIn (n - m)) (rest-is s (m * 68)) ∙ leaves-drop m n s h
+  behind-leaves = sym (ap (drop m) parts ∙ drop-at (leavesIn m (before m s)) _ m (leaves-length m (before m s)))
 
   pub before-sorted : Sorted m (before m s)
   before-sorted = record {
     size = length-take-le (m * 68) s (omega (arith, w .size));
-    rises = rw before-leaves (rising-take m (leavesIn n s) (w .rises));
+    rises = rising-left _ _ (sym (ap rising parts) ∙ w .rises);
   }
 
   pub behind-sorted : Sorted (n - m) (behind m s)
   behind-sorted = record {
     size = ap length (rest-is s (m * 68)) ∙ omega (arith, w .size, length-drop (m * 68) s);
-    rises = rw behind-leaves (rising-drop m (leavesIn n s) (w .rises));
+    rises = rising-right (leavesIn m (before m s)) _ (sym (ap rising parts) ∙ w .rises);
   }
 
 -- what the first and the last label share

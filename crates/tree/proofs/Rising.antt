@@ -1,5 +1,5 @@
--- Leaves in bit order: each stands before all behind it, and at the bit behind what they share no 0 stands behind a 1. Assumes nothing.
-use mathlib.Core.Path.{_≡_, refl, sym, ap, _∙_, subst}
+-- Leaves in bit order: at the bit behind what they share no 0 stands behind a 1. Assumes nothing.
+use mathlib.Core.Path.{_≡_, sym, ap, _∙_, subst}
 use mathlib.Core.Logic.{⊎-elim}
 use mathlib.Core.Bool.{Bool, true, false}
 use mathlib.Core.List.{List, [], _∷_}
@@ -14,47 +14,12 @@ use Rattle.paper.specs.Lists.{All}
 use Rattle.paper.specs.Bits.{Bits, Pfx, _▹_}
 use Rattle.paper.specs.Strings.{Node, nothing}
 use Rattle.paper.specs.Tree.{key}
-use Rattle.paper.specs.Audit.{before?}
-use Rattle.paper.specs.Level.{rising}
-use Rattle.paper.proofs.Lists.{true-or-false, not-both, and-left, and-right, and-both, all-in, in-all, all-getD}
+use Rattle.paper.proofs.Lists.{true-or-false, not-both, all-getD}
 use Rattle.paper.proofs.Bits.{pfx-trans, pfx-snoc, pfx-one-way, pfx-length, length-snoc}
-use Rattle.paper.proofs.Order.{Before, before-trans, test-before}
+use Rattle.paper.proofs.Order.{Before}
 use Rattle.bit_order.proofs.Order.{before-once, Ordered}
 use Rattle.bit_order.proofs.Cut.{pfx-goes-on}
 use Rattle.tree.specs.Stored.{Range, Cut}
-
--- asked of neighbours, it holds of all
-pub rising-ordered : (S : List Node) → rising S ≡ true → Ordered key S
-unfolding rising
-rising-ordered [] e = tt
-rising-ordered (x ∷ []) e = (tt, tt)
-rising-ordered (x ∷ y ∷ S) e =
-    let b = test-before (key x) (key y) (and-left _ _ e) in
-    let h = rising-ordered (y ∷ S) (and-right (before? (key x) (key y)) _ e) in
-    ((b, in-all _ S (λ z m. before-trans (key x) (key y) (key z) b (all-in _ S (h .0) z m))), h)
-
--- a part of a list in order is in order
-pub rising-take : (m : ℕ) (S : List Node) → rising S ≡ true → rising (take m S) ≡ true
-unfolding rising
-rising-take zero S e = refl
-rising-take (suc m) [] e = refl
-rising-take (suc m) (x ∷ []) e = by m
-  where
-    by : (m : ℕ) → rising (x ∷ take m []) ≡ true
-    by zero = refl
-    by (suc m) = refl
-rising-take (suc zero) (x ∷ y ∷ S) e = refl
-rising-take (suc (suc m)) (x ∷ y ∷ S) e =
-    let b = before? (key x) (key y) in
-    and-both {a = b} (and-left b _ e) (rising-take (suc m) (y ∷ S) (and-right b _ e))
-
-pub rising-drop : (m : ℕ) (S : List Node) → rising S ≡ true → rising (drop m S) ≡ true
-unfolding rising
-rising-drop zero S e = e
-rising-drop (suc m) [] e = refl
-rising-drop (suc zero) (x ∷ []) e = refl
-rising-drop (suc (suc m)) (x ∷ []) e = refl
-rising-drop (suc m) (x ∷ y ∷ S) e = rising-drop m (y ∷ S) (and-right (before? (key x) (key y)) _ e)
 
 -- what holds at each place holds of all
 pub all-at : {A : Type 0} (P : A → Type 0) (l : List A) (d : A) → ((i : ℕ) → i < length l → P (getD l i d)) → All P l

@@ -15,7 +15,8 @@ use Rattle.paper.proofs.Fits.{digest-wide}
 use Rattle.words.proofs.Pasted.{rest-is, pasted-none, pasted-at}
 use Rattle.tree.specs.Stored.{flat, Sorted, Cut, BelowLaid, Side, SideLaid, Stored, Laid}
 use Rattle.tree.specs.declared.Sides.{Sides}
-use Rattle.tree.proofs.Leaves.{leaves-length, leaves-long, bare, single}
+use Rattle.bit_order.proofs.Leaves.{leaves-length, leaves-long}
+use Rattle.tree.proofs.Leaves.{bare, single}
 use Rattle.tree.proofs.Step.{root-step}
 use Rattle.tree.proofs.Halves.{before, behind, Halves, before-leaves, behind-leaves}
 

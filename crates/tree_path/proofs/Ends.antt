@@ -19,7 +19,7 @@ use Rattle.paper.proofs.Lists.{all-take, all-drop}
 use Rattle.paper.proofs.Bytes.{be-length, be-number, pack-length, pack-bitsOf}
 use Rattle.paper.proofs.Fits.{step-fits, path-fits}
 use Rattle.words.proofs.Pasted.{length-part}
-use Rattle.tree_path.specs.Written.{endSize, endBytes, wayBytes}
+use Rattle.tree_path.specs.Written.{endSize, nodeBytes, endBytes, wayBytes}
 
 -- ---- the parts
 
@@ -49,7 +49,7 @@ other-bytes : (m : Bits) (c : Bytes) (e : ℕ) → endBytes (other m c e) ≡ 1 
 unfolding endBytes led within endOf view seq block be
 other-bytes m c e = refl
 
-pub off-bytes : (p : Bits) (l r : Bytes) → endBytes (off p l r) ≡ 2 ∷ ((be 2 (length p) ++ pack wide p) ++ (l ++ r))
+pub off-bytes : (p : Bits) (l r : Bytes) → endBytes (off p l r) ≡ 2 ∷ nodeBytes p (l ++ r)
 unfolding endBytes led within endOf view seq such block be
 off-bytes p l r = refl
 
@@ -96,20 +96,15 @@ unfolding timesBytes
 steps-size [] f = refl
 steps-size (s ∷ l) f = omega (arith, length-append (stepField .bytes s) (timesBytes (stepField .bytes) l), step-size s (f .0), steps-size l (f .1))
 
-pub off-long : (p : Bits) (l r : Bytes) → length (endBytes (off p l r)) ≡ 35 + length (l ++ r)
-off-long p l r = ap length (off-bytes p l r) ∙ omega (
-  arith,
-  length-append (be 2 (length p) ++ pack wide p) (l ++ r),
-  length-append (be 2 (length p)) (pack wide p),
-  be-length 2 (length p),
-  pack-length wide p,
-)
+pub node-long : (p : Bits) (d : Bytes) → length (nodeBytes p d) ≡ 34 + length d
+node-long p d =
+    omega (arith, length-append (be 2 (length p) ++ pack wide p) d, length-append (be 2 (length p)) (pack wide p), be-length 2 (length p), pack-length wide p)
 
 end-size : (m : ℕ) (e : End) → endField m .Fits e → length (endBytes e) ≡ 1 + endSize (endKind e)
 unfolding led within endOf view seq such block
 end-size m (this c e) f = ap length (this-bytes c e) ∙ omega (arith, length-append c (be 4 e), be-length 4 e, f .1 .0 .0 .0)
 end-size m (other l c e) f = ap length (other-bytes l c e) ∙ omega (arith, length-append (pack wide l) (c ++ be 4 e), length-append c (be 4 e), be-length 4 e, pack-length wide l, f .1 .0 .1 .0 .0)
-end-size m (off p l r) f = omega (arith, off-long p l r, length-append l r, f .1 .0 .1 .0 .0, f .1 .0 .1 .1 .0)
+end-size m (off p l r) f = ap length (off-bytes p l r) ∙ omega (arith, node-long p (l ++ r), length-append l r, f .1 .0 .1 .0 .0, f .1 .0 .1 .1 .0)
 end-size m none f = ap length none-bytes
 
 pub no-size : (k : ℕ) → 3 ≤ k → 0 ≡ endSize k

@@ -1,36 +1,24 @@
 -- Labels by their bytes: whether one begins with the first bits of another, and whether they are the same. Assumes nothing.
-use mathlib.Core.Path.{_≡_, sym, ap, _∙_, subst}
+use mathlib.Core.Path.{_≡_, sym, ap, _∙_}
 use mathlib.Core.Logic.{⊎-elim}
 use Prim.Native.Nat.{ℕ, _≤_}
 use native.Mathlib.Omega.{arith}
 use lib.Dec.{leb}
 use lib.ListN.{length, take}
 use lib.Seq.{length-take-le, take-take, take-all}
-use borrow.Author.Tests.{leb-true, leb-false}
 use Rattle.paper.specs.Bytes.{Bytes, Bytewise, same}
-use Rattle.paper.specs.Bits.{Bits, Pfx, starts, lcp, bitsOf, firstDifference}
+use Rattle.paper.specs.Bits.{starts, lcp, bitsOf, firstDifference}
 use Rattle.paper.specs.Path.{sameBits}
 use Rattle.paper.proofs.Lists.{true-or-false, not-both}
-use Rattle.paper.proofs.Bits.{pfx-trans, pfx-take, pfx-length, pfx-starts, lcp-left, lcp-right, lcp-most}
 use Rattle.paper.proofs.Bytes.{same-eq, eq-same, bitsOf-length, bitsOf-inj}
-use Rattle.paper.proofs.Walk.{sameBits-eq, eq-sameBits, fails, no-starts}
-use Rattle.bit_order.proofs.Cut.{pfx-is-take}
-
--- the first k bits of x begin y exactly where the two agree on k bits
-first-bits : (x y : Bits) (k : ℕ) → k ≤ length x → leb k (length (lcp y x)) ≡ starts (take k x) y
-first-bits x y k h = ⊎-elim
-    (λ e. e ∙ sym (pfx-starts (take k x) y (agree (leb-true k (length (lcp y x)) e))))
-    (λ e. e ∙ sym (no-starts (take k x) y (λ u. omega (arith, leb-false k (length (lcp y x)) e, length-take-le k x h, pfx-length (lcp-most (take k x) y x u (pfx-take k x))))))
-    (true-or-false (leb k (length (lcp y x))))
-  where
-    agree : k ≤ length (lcp y x) → Pfx (take k x) y
-    agree l = subst (λ z. Pfx z y) (ap (take k) (pfx-is-take (lcp-right y x)) ∙ take-take k (length (lcp y x)) x l) (pfx-trans (pfx-take k (lcp y x)) (lcp-left y x))
+use Rattle.paper.proofs.Walk.{sameBits-eq, eq-sameBits, fails}
+use Rattle.bits.proofs.Lcp.{first-bits}
 
 pub begins-by : (s label : Bytes) (k : ℕ) → 68 ≤ length s → length label ≡ 32 → k ≤ 256 → leb k (firstDifference (take 32 label) (take 32 (take 32 s))) ≡ starts (take k (bitsOf (take 32 s))) (bitsOf label)
 unfolding firstDifference
 begins-by s label k h l m =
     (λ i. leb k (length (lcp (bitsOf (take-all 32 label (omega arith) i)) (bitsOf (take-take 32 32 s (omega arith) i)))))
-    ∙ first-bits (bitsOf (take 32 s)) (bitsOf label) k (omega (arith, bitsOf-length (take 32 s), length-take-le 32 s (omega arith)))
+    ∙ sym (first-bits (bitsOf label) (bitsOf (take 32 s)) k (omega (arith, bitsOf-length (take 32 s), length-take-le 32 s (omega arith))))
 
 -- bytes that are the same, and bits
 pub same-bits : (x y : Bytes) → Bytewise x → Bytewise y → length x ≡ length y → same x y ≡ sameBits (bitsOf x) (bitsOf y)

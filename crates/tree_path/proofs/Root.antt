@@ -15,7 +15,7 @@ use Rattle.paper.proofs.Fits.{digest-wide}
 use Rattle.words.proofs.Pasted.{rest-is}
 use Rattle.tree.specs.Stored.{flat, Sorted, Side, Stored}
 use Rattle.tree.specs.declared.Sides.{Sides}
-use Rattle.tree.proofs.Leaves.{leaves-length}
+use Rattle.bit_order.proofs.Leaves.{leaves-length}
 use Rattle.tree.proofs.Halves.{before, behind, before-leaves, behind-leaves, RootHalves, root-halves}
 use Rattle.tree_path.specs.Written.{wayBytes}
 use Rattle.tree_path.proofs.Ways.{turn-bytes, starts-none}

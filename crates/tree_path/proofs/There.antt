@@ -26,7 +26,7 @@ use Rattle.paper.proofs.Honest.{LeafSized, LeafSet, held-not, way-present, way-
 use Rattle.bit_order.proofs.Sides.{ordered-free}
 use Rattle.words.proofs.Pasted.{length-part}
 use Rattle.tree.specs.Stored.{Sorted}
-use Rattle.tree.proofs.Rising.{rising-ordered}
+use Rattle.bit_order.proofs.Order.{rising-ordered}
 use Rattle.tree_path.proofs.Ends.{size-most, path-size}
 
 leaves-sized : (n : ℕ) (s : Bytes) → n * 68 ≤ length s → Bytewise s → All LeafSized (leavesIn n s)

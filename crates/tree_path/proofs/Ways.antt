@@ -19,8 +19,9 @@ use Rattle.paper.proofs.Bytes.{bitsOf-length}
 use Rattle.paper.proofs.Way.{build-grown, grown-length, way-fork, way-down, down-count}
 use Rattle.bit_order.proofs.Sides.{ordered-free}
 use Rattle.tree.specs.Stored.{Sorted, Range}
-use Rattle.tree.proofs.Leaves.{leaves-long, long-short, leaves-some, bare, single}
-use Rattle.tree.proofs.Rising.{rising-ordered}
+use Rattle.bit_order.proofs.Leaves.{leaves-long}
+use Rattle.tree.proofs.Leaves.{long-short, leaves-some, bare, single}
+use Rattle.bit_order.proofs.Order.{rising-ordered}
 use Rattle.tree_path.specs.declared.walk.Way.{Way}
 use Rattle.tree_path.specs.Written.{wayOf, endBytes, wayBytes}
 

@@ -3,19 +3,18 @@ use mathlib.Core.Path.{_≡_, refl, sym, ap, ap₂, _∙_}
 use mathlib.Core.List.{List, [], _∷_, _++_, append-nil, append-assoc}
 use Prim.Native.Nat.{ℕ, _+_, _≤_, _<_}
 use native.Mathlib.Omega.{arith}
-use lib.ListN.{length, take, drop, set, length-append, take-append-drop}
-use Rattle.paper.specs.Numbers.{wide}
+use lib.ListN.{length, set, length-append}
 use Rattle.paper.specs.Bytes.{Bytes, be, pasted}
-use Rattle.paper.specs.Bits.{Bits, pack}
+use Rattle.paper.specs.Bits.{Bits}
 use Rattle.paper.specs.Tree.{Tree, build}
-use Rattle.paper.specs.Path.{off, waySteps, way}
+use Rattle.paper.specs.Path.{waySteps, way}
 use Rattle.paper.specs.Layout.{timesBytes}
 use Rattle.paper.specs.Fields.{stepField, pathField}
 use Rattle.paper.specs.Level.{leavesIn}
-use Rattle.paper.proofs.Bytes.{be-length, pack-length}
+use Rattle.paper.proofs.Bytes.{be-length}
 use Rattle.words.proofs.Pasted.{pasted-one, pasted-pasted}
-use Rattle.tree_path.specs.Written.{endBytes, wayBytes, Wrote}
-use Rattle.tree_path.proofs.Ends.{step-bytes, path-bytes, off-bytes, none-bytes}
+use Rattle.tree_path.specs.Written.{wayBytes, Wrote}
+use Rattle.tree_path.proofs.Ends.{step-bytes, path-bytes, none-bytes}
 use Rattle.tree.proofs.Leaves.{bare}
 use Rattle.tree_path.proofs.Ways as W
 
@@ -48,17 +47,15 @@ end-wrote o u x at kind h e = record {
   behind = omega arith;
 }
 
-pub off-wrote : (o a b c slot : Bytes) (at k : ℕ) (p : Bits) → at + 99 ≤ length o → length p ≡ k → length slot ≡ 64
-    → a ≡ pasted (set o at 2) (at + 1) (be 2 k) → b ≡ pasted a (at + 3) (pack wide p) → c ≡ pasted b (at + 35) slot → Wrote o at (endBytes (off p (take 32 slot) (drop 32 slot))) c (at + 99)
-off-wrote o a b c slot at k p h n l ea eb ec =
-    let whole : 2 ∷ ((be 2 k ++ pack wide p) ++ slot) ≡ endBytes (off p (take 32 slot) (drop 32 slot)) =
-    ap₂ (λ i x. 2 ∷ ((be 2 i ++ pack wide p) ++ x)) (sym n) (sym (take-append-drop 32 slot)) ∙ sym (off-bytes p (take 32 slot) (drop 32 slot)) in
-    let first = laid-next o (set o at 2) a (2 ∷ []) (be 2 k) at (at + 1) (omega arith) (pasted-one o at 2 (omega arith)) (omega arith) ea in
-    let second = laid-next o a b (2 ∷ be 2 k) (pack wide p) at (at + 3) (omega arith) first (omega (arith, be-length 2 k)) eb in
-    let size : length (2 ∷ (be 2 k ++ pack wide p)) ≡ 35 = omega (arith, length-append (be 2 k) (pack wide p), be-length 2 k, pack-length wide p) in
+-- kind, length, label or prefix, and the rest: 99 bytes
+pub record-wrote : (o a b c x y z : Bytes) (at kind next : ℕ) → at + 99 ≤ length o → length x ≡ 2 → next ≡ at + 3 + length y → length y + length z ≡ 96
+    → a ≡ pasted (set o at kind) (at + 1) x → b ≡ pasted a (at + 3) y → c ≡ pasted b next z → Wrote o at (kind ∷ ((x ++ y) ++ z)) c (at + 99)
+record-wrote o a b c x y z at kind next h l n m ea eb ec =
+    let first = laid-next o (set o at kind) a (kind ∷ []) x at (at + 1) (omega arith) (pasted-one o at kind (omega arith)) (omega arith) ea in
+    let second = laid-next o a b (kind ∷ x) y at (at + 3) (omega arith) first (omega arith) eb in
     record {
-      laid = laid-next o b c (2 ∷ (be 2 k ++ pack wide p)) slot at (at + 35) (omega arith) second (omega arith) ec ∙ ap (pasted o at) whole;
-      behind = omega (arith, length-append (be 2 k ++ pack wide p) slot, ap length whole);
+      laid = laid-next o b c (kind ∷ (x ++ y)) z at next (omega arith) second (omega (arith, length-append x y)) ec;
+      behind = omega (arith, length-append x y, length-append (x ++ y) z);
     }
 
 -- ---- a step, and the way behind it

@@ -3,8 +3,9 @@ use mathlib.Core.Path.{_≡_}
 use mathlib.Core.List.{_++_}
 use Prim.Native.Nat.{ℕ, zero, suc, _+_}
 use lib.ListN.{length}
-use Rattle.paper.specs.Bytes.{Bytes, pasted}
-use Rattle.paper.specs.Bits.{Bits}
+use Rattle.paper.specs.Numbers.{wide}
+use Rattle.paper.specs.Bytes.{Bytes, be, pasted}
+use Rattle.paper.specs.Bits.{Bits, pack}
 use Rattle.paper.specs.Tree.{Tree}
 use Rattle.paper.specs.Path.{End, waySteps, wayEnd}
 use Rattle.paper.specs.Layout.{timesBytes}
@@ -26,6 +27,11 @@ endSize (suc (suc (suc k))) = 0
 -- an end; how many steps stand before it changes nothing in its bytes
 unfoldable pub endBytes : End → Bytes
 endBytes e = endField 1 .bytes e
+
+-- an inner node of prefix p behind a kind, in a path's end and in an audit's record: "its 98 bytes after 0x01"; d is the digests of its
+-- children
+abbrev pub nodeBytes : Bits → Bytes → Bytes
+nodeBytes p d = (be 2 (length p) ++ pack wide p) ++ d
 
 -- the steps and the end, as they stand behind the count
 unfoldable pub wayBytes : Bits → Tree → Bytes

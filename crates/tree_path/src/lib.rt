@@ -8,4 +8,5 @@ mod write;
 
 pub use walk::is_there;
 pub use walk::path_length;
+pub use write::write_node;
 pub use write::write_path;

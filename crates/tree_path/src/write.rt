@@ -13,7 +13,7 @@ use words::write16;
 ghost use mathlib.Core.Path.{_≡_};
 ghost use mathlib.Core.List.{_∷_};
 ghost use Prim.Native.Nat.{_+_, _*_, _-_, _≤_};
-ghost use lib.ListN.{length, take, drop};
+ghost use lib.ListN.{length, take};
 ghost use Rattle.paper.specs.Bytes.{pasted};
 ghost use Rattle.paper.specs.Bits.{bitsOf};
 ghost use Rattle.paper.specs.Tree.{key, build, root};
@@ -21,7 +21,7 @@ ghost use Rattle.paper.specs.Path as P;
 ghost use Rattle.paper.specs.Fields.{stepField, pathField};
 ghost use Rattle.paper.specs.Level.{entryLeaf, leavesIn};
 ghost use Rattle.tree.specs.Stored.{flat, Sorted, Range, Part, Stored};
-ghost use Rattle.tree_path.specs.Written.{endBytes, wayBytes, Wrote};
+ghost use Rattle.tree_path.specs.Written.{nodeBytes, endBytes, wayBytes, Wrote};
 
 // "prefix length (2) and sibling digest (32)"
 fn write_step(out: &mut [u8], at: usize, k: usize, sibling: &[u8; 32])
@@ -53,12 +53,13 @@ fn write_leaf(s: &[u8], label: &[u8], out: &mut [u8], at: usize) -> usize
     write_end(out, at, 1, &s[..68])
 }
 
-// "2, another inner node: its 98 bytes after 0x01": the digests of its children are the slot.
-fn write_off(s: &[u8], k: usize, slot: &[u8], out: &mut [u8], at: usize) -> usize
+// "another inner node: its 98 bytes after 0x01", behind a kind: the digests of its children are the slot. An audit's opened node is written
+// so too.
+pub fn write_node(kind: u8, s: &[u8], k: usize, slot: &[u8], out: &mut [u8], at: usize) -> usize
     requires { ⌜ (68 ≤ length (now s)) × (k ≤ 255) × (length (now slot) ≡ 64) × (at + 99 ≤ length (now out)) ⌝ }
-    ensures { λ r. ⌜ Wrote (now (out .entry)) at (endBytes (P.off (take k (key (entryLeaf (now (s .entry))))) (take 32 (now (slot .entry))) (drop 32 (now (slot .entry))))) (now (out .exit)) r ⌝ }
+    ensures { λ r. ⌜ Wrote (now (out .entry)) at (kind ∷ nodeBytes (take k (key (entryLeaf (now (s .entry))))) (now (slot .entry))) (now (out .exit)) r ⌝ }
 {
-    out[at] = 2;
+    out[at] = kind;
     write16(out, at + 1, k as u16);
     put(out, at + 3, &prefix_of(label_of(s, 0), k));
     put(out, at + 35, slot);
@@ -88,7 +89,7 @@ fn write_below(
     let slot = (m - 1) * 64;
     let behind = m * 64;
     if !has_prefix(s, k, label) {
-        return write_off(s, k, &slots[slot..behind], out, at);
+        return write_node(2, s, k, &slots[slot..behind], out, at);
     }
     let middle = m * 68;
     if label_bit(label, k) {

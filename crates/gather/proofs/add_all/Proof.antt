@@ -11,8 +11,9 @@ use Rattle.paper.specs.Strings.{leaf}
 use Rattle.paper.specs.Table.{Record}
 use Rattle.record.specs.Places.{recordAt}
 use Rattle.gather.specs.Gathered.{Gained}
+use Rattle.bits.proofs.Powers.{marker-few, marker-shift}
 use Rattle.gather.proofs.Row.{gain-more}
-use Rattle.gather.proofs.Leaves.{name-few, key-few, marker-few, marker-shift, all-unmarked, all-marked, versionLeaf, markerLeaf}
+use Rattle.gather.proofs.Leaves.{name-few, key-few, all-unmarked, all-marked, versionLeaf, markerLeaf}
 use Rattle.gather.proofs.add_all.Statement.{statement}
 use Rattle.gather.proofs.add_all.Tie as tie
 use Rattle.gather.proofs.add_all.Reads as reads
@@ -88,7 +89,7 @@ few : (c : tie.After-marker-of) → c .marker-of .result ≤ 15
 few c = rw (c .marker-of .ensures) (marker-few _ (small c))
 
 shifted : (c : tie.After-marker-of) → 1 * 2 ^ (c .marker-of .result) % 2 ^ 32 ≡ 2 ^ log2 (recordHere c .version)
-shifted c = marker-shift _ _ (small c) (c .marker-of .ensures) ∙ ap (λ v. 2 ^ log2 v) (c .before .before .before .before .before .before .before .before .before .before .before .version-at .ensures)
+shifted c = marker-shift 32 _ _ (omega arith) (small c) (c .marker-of .ensures) ∙ ap (λ v. 2 ^ log2 v) (c .before .before .before .before .before .before .before .before .before .before .before .version-at .ensures)
 
 -- src/lib.rt:47:8
 shl-if1 : tie.Need-shl-if1

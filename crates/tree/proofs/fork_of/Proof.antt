@@ -10,8 +10,8 @@ use Rattle.paper.specs.Strings.{Node, nothing}
 use Rattle.paper.specs.Tree.{key}
 use Rattle.paper.specs.Level.{leavesIn}
 use Rattle.tree.specs.Stored.{Range, Cut, Forked}
-use Rattle.tree.proofs.Leaves.{leaves-length, leaves-long}
-use Rattle.tree.proofs.Rising.{rising-ordered}
+use Rattle.bit_order.proofs.Leaves.{leaves-length, leaves-long}
+use Rattle.bit_order.proofs.Order.{rising-ordered}
 use Rattle.tree.proofs.Step.{shared-range, forked}
 use Rattle.tree.proofs.Halves.{ends-differ}
 use Rattle.tree.proofs.fork_of.Statement.{statement}

@@ -8,8 +8,9 @@ use lib.ListN.{getD}
 use Rattle.paper.specs.Bits.{bitsOf}
 use Rattle.paper.specs.Tree.{key}
 use Rattle.paper.specs.Level.{leavesIn}
-use Rattle.tree.proofs.Leaves.{leaves-length, leaves-long, leaf-at}
-use Rattle.tree.proofs.Rising.{rising-ordered, bitAt, climbs, sinks, cut-at}
+use Rattle.bit_order.proofs.Leaves.{leaves-length, leaves-long, leaf-at}
+use Rattle.bit_order.proofs.Order.{rising-ordered}
+use Rattle.tree.proofs.Rising.{bitAt, climbs, sinks, cut-at}
 use Rattle.tree.proofs.split.Statement.{statement}
 use Rattle.tree.proofs.split.Tie as tie
 

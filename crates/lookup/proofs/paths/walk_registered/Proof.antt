@@ -6,7 +6,8 @@ use Rattle.paper.specs.Bytes.{Bytewise}
 use Rattle.words.proofs.Slices.{bytewise}
 use Rattle.shown.proofs.Walked.{Counted, walked-counted, counted-ready}
 use Rattle.shown.specs.declared.Walk.the-variants.{On}
-use Rattle.lookup.proofs.Tested.{marker-small, marker-shift, registered-is}
+use Rattle.bits.proofs.Powers.{marker-few, marker-shift}
+use Rattle.lookup.proofs.Tested.{registered-is}
 use Rattle.lookup.proofs.paths.walk_registered.Statement.{statement}
 use Rattle.lookup.proofs.paths.walk_registered.Tie as tie
 
@@ -48,7 +49,7 @@ take-path-requires-3 c κs =
 small : (c : tie.After-take-path2) → c .before .before .before .before .marker-of .result ≤ 15
 small c =
     let m = c .before .before .before .before in
-    rw (m .marker-of .ensures) (marker-small (start (c .before .before) .args .version) (start (c .before .before) .pre .1) (omega arith))
+    rw (m .marker-of .ensures) (marker-few (start (c .before .before) .args .version) (omega arith))
 
 shl-least : tie.Need-shl-least
 shl-least c = omega (arith, small c)
@@ -67,7 +68,7 @@ returns c =
     let m = q .before in
     let a = start f .args in
     registered-is (a .proof .now) (a .name .now) (a .start) (a .version) (a .epoch) _ _ _ _ _ _ _ _ _ _ (m .before .commitment-at .ensures) (q .present .ensures) (f .take-path .ensures)
-    (g .missing .ensures) (t .take-path2 .ensures) (m .marker-of .ensures) (marker-shift (a .version) _ (start f .pre .1) (omega (arith, start f .fits .version)) (m .marker-of .ensures)) (e .epoch-of .ensures)
+    (g .missing .ensures) (t .take-path2 .ensures) (m .marker-of .ensures) (marker-shift 64 (a .version) _ (omega arith) (omega (arith, start f .fits .version)) (m .marker-of .ensures)) (e .epoch-of .ensures)
     (p .present2 .ensures) (c .take-path3 .ensures)
 
 pub walk-registered-spec : {M : Type 1} → statement M

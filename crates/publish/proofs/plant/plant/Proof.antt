@@ -9,7 +9,8 @@ use lib.Seq.{length-take-le}
 use Rattle.paper.specs.Strings.{Node}
 use Rattle.record.specs.Places.{recordsIn}
 use Rattle.gather.specs.Gathered.{leavesBy, Gained}
-use Rattle.gather.proofs.Row.{leaves-none, leaves-taken, gain-more}
+use Rattle.bit_order.proofs.Leaves.{leaves-none, leaves-cut}
+use Rattle.gather.proofs.Row.{gain-more}
 use Rattle.gather.proofs.Leaves.{by-append, by-few}
 use Rattle.level.specs.Rooted.{Roots}
 use Rattle.publish.proofs.plant.plant.Statement.{statement}
@@ -87,7 +88,7 @@ returns c =
     let row = w .before .gather2 .last .1 .1 .1 .1 .0 in
     let a = w .before .before .before .before .before .before .before .before .before .args in
     let S = leavesBy (a .old) (a .epoch) (recordsIn (a .count) (a .records .now) ++ recordsIn (a .n) (a .fresh .now)) in
-    let e = leaves-taken m row (room w) ∙ all w .leaves ∙ ap (λ (l : List Node). l ++ S) (leaves-none (w .before .before .before .before .before .before .row .result)) in
+    let e = leaves-cut m (m * 68) row (omega arith) ∙ all w .leaves ∙ ap (λ (l : List Node). l ++ S) (leaves-none (w .before .before .before .before .before .before .row .result)) in
     subst (λ S. Roots S (c .before .root-of .result)) e (c .before .root-of .ensures)
 
 pub plant-spec : {M : Type 1} → statement M

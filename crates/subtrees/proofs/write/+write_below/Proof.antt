@@ -2,27 +2,25 @@
 -- the other. What is left of 256 bits falls.
 use borrow.Author.Needs.{needs}
 use native.Mathlib.Omega.{arith}
-use mathlib.Core.Path.{_≡_, sym, ap, ap₂, _∙_, subst}
-use mathlib.Core.List.{_++_}
+use mathlib.Core.Path.{_≡_, sym, ap, _∙_, subst}
+use mathlib.Core.List.{_∷_, _++_}
 use Prim.Native.Nat.{ℕ, _+_, _-_, _*_, _≤_, _<_}
 use lib.ListN.{length, take, drop, length-append}
-use lib.Seq.{length-take-le, take-at, drop-at}
+use lib.Seq.{length-take-le}
 use borrow.Author.Tests.{not-true, not-false}
 use Rattle.paper.specs.Bits.{Bits}
-use Rattle.paper.specs.Strings.{nodeString}
 use Rattle.paper.specs.Tree.{key, digest, Tree, one, top, build}
-use Rattle.paper.specs.Audit.{opened, auditRecordField}
 use Rattle.paper.specs.Write.{hasNew}
 use Rattle.paper.specs.Level.{entryLeaf, leavesIn}
-use Rattle.paper.proofs.Fits.{digest-wide}
 use Rattle.tree.proofs.Leaves.{single}
 use Rattle.tree.proofs.Slots.{slot-wide}
 use Rattle.tree.proofs.Halves.{before, behind, Halves, halves, before-sorted, behind-sorted}
 use Rattle.tree.proofs.Flat.{slots-size, low-slots, the-slot, high-slots}
-use Rattle.tree_path.specs.Written.{Wrote}
+use Rattle.tree_path.specs.Written.{nodeBytes, Wrote}
+use Rattle.tree_path.proofs.Ends.{node-long}
 use Rattle.subtrees.specs.Listed.{treeBytes}
 use Rattle.subtrees.proofs.News.{tree-new}
-use Rattle.subtrees.proofs.Records.{old-bytes, new-bytes, entry-size, opened-size, wrote-both}
+use Rattle.subtrees.proofs.Records.{old-bytes, new-bytes, entry-size, wrote-both}
 use borrow.Fn.Kinds.{In}
 use borrow.Fn.PlainCycle.{Measures, is, falls, and}
 use Rattle.subtrees.proofs.write.write_below.Reads as write-below
@@ -30,8 +28,8 @@ use Rattle.subtrees.proofs.write.write_below.Kinds as write-below-kinds
 use Rattle.subtrees.proofs.write.+write_below.Lts-write_below as write-below-lts
 use Rattle.subtrees.proofs.count.has_new.Reads as has-new-reads
 use Rattle.subtrees.proofs.write.write_leaf.Reads as write-leaf-reads
-use Rattle.subtrees.proofs.write.write_opened.Reads as write-opened-reads
 use Rattle.tree.proofs.fork_of.Reads as fork-of-reads
+use Rattle.tree_path.proofs.write_node.Reads as write-node-reads
 use Rattle.subtrees.proofs.write.+write_below.{statement}
 use Rattle.subtrees.proofs.write.+write_below.Tie.{close}
 
@@ -53,8 +51,8 @@ module _ (t : ℕ) where
     fork-of-reads.Learnt,
     has-new-reads.Asked,
     has-new-reads.Learnt,
-    write-opened-reads.Asked,
-    write-opened-reads.Learnt,
+    write-node-reads.Asked,
+    write-node-reads.Learnt,
     write-below-below t,
     write-below.Post,
   )
@@ -139,7 +137,7 @@ module _ (t : ℕ) where
 
   -- no leaf is new
   unchanged : (c : write-below-lts.Then2 claims Pre write-below.Post)
-      → treeBytes (start (c .before .before) .args .epoch) (whole (c .before .before)) ≡ auditRecordField .bytes (opened (prefix (c .before .before)) (digest (top (low (c .before .before)))) (digest (top (high (c .before .before)))))
+      → treeBytes (start (c .before .before) .args .epoch) (whole (c .before .before)) ≡ 1 ∷ nodeBytes (prefix (c .before .before)) (digest (top (low (c .before .before))) ++ digest (top (high (c .before .before))))
   unchanged c = let w = c .before .before in old-bytes (start w .args .epoch) (whole w) _ _ _ (cut w .tree) (scanned (c .before) ∙ not-true _ (c .if2 .taken))
 
   slot : (c : write-below-lts.After-fork-of claims Pre write-below.Post)
@@ -150,40 +148,35 @@ module _ (t : ℕ) where
       ap (λ i. take i (drop ((left c - 1) * 64) (a .slots .now))) e
       ∙ the-slot (a .n) (a .from) (a .s .now) (bits c) (left c) (start c .pre .1 .2) (cut c) (a .slots .now) (start c .pre .1 .4)
 
-  sub-write-opened : write-below-lts.Need-sub-write-opened claims Pre write-below.Post
-  sub-write-opened c = let w = c .before .before in let h = cut w in omega (arith, h .small, h .least, h .less, start w .pre .1 .2 .size, slotted w)
+  sub-write-node : write-below-lts.Need-sub-write-node claims Pre write-below.Post
+  sub-write-node c = let w = c .before .before in let h = cut w in omega (arith, h .small, h .least, h .less, start w .pre .1 .2 .size, slotted w)
 
-  part-write-opened-start : write-below-lts.Need-part-write-opened-start claims Pre write-below.Post
-  part-write-opened-start c = let w = c .before .before in let h = cut w in omega (arith, h .small, h .least, h .less, start w .pre .1 .2 .size, slotted w)
+  part-write-node-start : write-below-lts.Need-part-write-node-start claims Pre write-below.Post
+  part-write-node-start c = let w = c .before .before in let h = cut w in omega (arith, h .small, h .least, h .less, start w .pre .1 .2 .size, slotted w)
 
-  part-write-opened-end : write-below-lts.Need-part-write-opened-end claims Pre write-below.Post
-  part-write-opened-end c = let w = c .before .before in let h = cut w in omega (arith, h .small, h .least, h .less, start w .pre .1 .2 .size, slotted w)
+  part-write-node-end : write-below-lts.Need-part-write-node-end claims Pre write-below.Post
+  part-write-node-end c = let w = c .before .before in let h = cut w in omega (arith, h .small, h .least, h .less, start w .pre .1 .2 .size, slotted w)
 
-  write-opened-requires : write-below-lts.Need-write-opened-requires claims Pre write-below.Post
-  write-opened-requires c κs =
+  write-node-requires : write-below-lts.Need-write-node-requires claims Pre write-below.Post
+  write-node-requires c κs =
       let w = c .before .before .before .before in
       let h = cut w in
-      let x = digest (top (low w)) in
-      let y = digest (top (high w)) in (
+      let l = slot-wide (low w) (high w) in (
         omega (arith, h .less, start w .pre .1 .2 .size),
         omega (arith, h .small),
-        ap length (slot w) ∙ slot-wide (low w) (high w),
-        omega (arith, start w .pre .1 .5, ap length (unchanged (c .before .before)), opened-size (prefix w) x y (digest-wide (nodeString (top (low w))) .size) (digest-wide (nodeString (top (high w))) .size)),
+        ap length (slot w) ∙ l,
+        omega (arith, start w .pre .1 .5, ap length (unchanged (c .before .before)), node-long (prefix w) (digest (top (low w)) ++ digest (top (high w))), l),
       )
 
   same-length-2 : write-below-lts.Need-same-length-2 claims Pre write-below.Post
-  same-length-2 c = c .before .before .write-opened .kept .1 .1 .1 .0
+  same-length-2 c = c .before .before .write-node .kept .1 .1 .1 .1 .0
 
   returns-2 : write-below-lts.Need-returns-2 claims Pre write-below.Post
   returns-2 c =
       let w = c .before .before .before .before .before .before .before in
       let a = start w .args in
-      let x = digest (top (low w)) in
-      let y = digest (top (high w)) in
-      let e : take 32 (x ++ y) ≡ x = take-at x y 32 (digest-wide (nodeString (top (low w))) .size) in
-      let f : drop 32 (x ++ y) ≡ y = drop-at x y 32 (digest-wide (nodeString (top (low w))) .size) in
-      let q = (λ i. auditRecordField .bytes (opened (prefix w) (take 32 (slot w i)) (drop 32 (slot w i)))) ∙ ap₂ (λ l r. auditRecordField .bytes (opened (prefix w) l r)) e f ∙ sym (unchanged (c .before .before .before .before .before)) in
-      subst (λ z. Wrote (a .out .now) (a .at) z (c .before .before .write-opened .last .1 .1 .1 .0) (c .before .before .write-opened .result)) q (c .before .before .write-opened .ensures)
+      let q = ap (λ d. 1 ∷ nodeBytes (prefix w) d) (slot w) ∙ sym (unchanged (c .before .before .before .before .before)) in
+      subst (λ z. Wrote (a .out .now) (a .at) z (c .before .before .write-node .last .1 .1 .1 .1 .0) (c .before .before .write-node .result)) q (c .before .before .write-node .ensures)
 
   -- a leaf is new
   parted : (c : write-below-lts.Else2 claims Pre write-below.Post) → treeBytes (start (c .before .before) .args .epoch) (whole (c .before .before)) ≡ treeBytes (start (c .before .before) .args .epoch) (low (c .before .before)) ++ treeBytes (start (c .before .before) .args .epoch) (high (c .before .before))
@@ -288,10 +281,10 @@ pub +write-below-spec : {M : Type 1} → statement M
     (mul-slot t)
     (mul-behind t)
     (has-new-requires t)
-    (sub-write-opened t)
-    (part-write-opened-start t)
-    (part-write-opened-end t)
-    (write-opened-requires t)
+    (sub-write-node t)
+    (part-write-node-start t)
+    (part-write-node-end t)
+    (write-node-requires t)
     (same-length-2 t)
     (returns-2 t)
     (mul-middle t)

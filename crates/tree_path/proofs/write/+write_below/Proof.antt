@@ -2,18 +2,18 @@
 -- side, and the way on the label's side behind it. What is left of 256 bits falls.
 use borrow.Author.Needs.{needs}
 use native.Mathlib.Omega.{arith}
-use mathlib.Core.Path.{_≡_, refl, sym, ap, ap₂, _∙_, subst}
+use mathlib.Core.Path.{_≡_, refl, sym, ap, _∙_, subst}
 use mathlib.Core.Bool.{true, false}
-use mathlib.Core.List.{_++_}
+use mathlib.Core.List.{_∷_, _++_}
 use Prim.Native.Nat.{ℕ, _+_, _-_, _*_, _<_}
-use lib.ListN.{length, take, drop, length-append}
-use lib.Seq.{length-take-le, take-at, drop-at}
+use lib.ListN.{length, take, drop}
+use lib.Seq.{length-take-le}
 use borrow.Author.Tests.{not-true, not-false}
 use Rattle.paper.specs.Bytes.{pasted}
 use Rattle.paper.specs.Bits.{Bits, bitsOf}
 use Rattle.paper.specs.Strings.{nodeString}
 use Rattle.paper.specs.Tree.{key, digest, Tree, top, build}
-use Rattle.paper.specs.Path.{off, endAt}
+use Rattle.paper.specs.Path.{endAt}
 use Rattle.paper.specs.Fields.{stepField}
 use Rattle.paper.specs.Level.{entryLeaf, leavesIn}
 use Rattle.paper.proofs.Fits.{digest-wide}
@@ -21,9 +21,9 @@ use Rattle.tree.proofs.Leaves.{single}
 use Rattle.tree.proofs.Slots.{slot-wide}
 use Rattle.tree.proofs.Halves.{before, behind, Halves, halves, before-sorted, behind-sorted}
 use Rattle.tree.proofs.Flat.{slots-size, low-slots, the-slot, high-slots, low-digest, high-digest}
-use Rattle.tree_path.specs.Written.{endBytes, wayBytes, Wrote}
+use Rattle.tree_path.specs.Written.{nodeBytes, endBytes, wayBytes, Wrote}
 use Rattle.tree_path.proofs.Ways.{one-bytes, off-bytes, turn-bytes, prefix-size}
-use Rattle.tree_path.proofs.Ends.{off-long}
+use Rattle.tree_path.proofs.Ends as E
 use Rattle.tree_path.proofs.Writing.{way-long, way-wrote}
 use borrow.Fn.Kinds.{In}
 use borrow.Fn.PlainCycle.{Measures, is, falls, and}
@@ -34,7 +34,7 @@ use Rattle.bits.proofs.label_bit.Reads as label-bit-reads
 use Rattle.tree.proofs.fork_of.Reads as fork-of-reads
 use Rattle.tree_path.proofs.walk.has_prefix.Reads as has-prefix-reads
 use Rattle.tree_path.proofs.write.write_leaf.Reads as write-leaf-reads
-use Rattle.tree_path.proofs.write.write_off.Reads as write-off-reads
+use Rattle.tree_path.proofs.write.write_node.Reads as write-node-reads
 use Rattle.tree_path.proofs.write.write_step.Reads as write-step-reads
 use Rattle.words.proofs.digest_at.Reads as digest-at-reads
 use Rattle.tree_path.proofs.write.+write_below.{statement}
@@ -58,8 +58,8 @@ module _ (t : ℕ) where
     fork-of-reads.Learnt,
     has-prefix-reads.Asked,
     has-prefix-reads.Learnt,
-    write-off-reads.Asked,
-    write-off-reads.Learnt,
+    write-node-reads.Asked,
+    write-node-reads.Learnt,
     label-bit-reads.Asked,
     label-bit-reads.Learnt,
     digest-at-reads.Asked,
@@ -148,21 +148,21 @@ module _ (t : ℕ) where
   has-prefix-requires : write-below-lts.Need-has-prefix-requires claims Pre write-below.Post
   has-prefix-requires c κs = let h = cut c in (omega (arith, h .less, start c .pre .1 .0 .sorted .size), omega (arith, h .small), start c .pre .1 .2)
 
-  sub-write-off : write-below-lts.Need-sub-write-off claims Pre write-below.Post
-  sub-write-off c = let h = cut (c .before .before) in omega (arith, h .small, h .least, h .less, start (c .before .before) .pre .1 .0 .sorted .size, slotted (c .before .before))
+  sub-write-node : write-below-lts.Need-sub-write-node claims Pre write-below.Post
+  sub-write-node c = let h = cut (c .before .before) in omega (arith, h .small, h .least, h .less, start (c .before .before) .pre .1 .0 .sorted .size, slotted (c .before .before))
 
-  part-write-off-start : write-below-lts.Need-part-write-off-start claims Pre write-below.Post
-  part-write-off-start c = let h = cut (c .before .before) in omega (arith, h .small, h .least, h .less, start (c .before .before) .pre .1 .0 .sorted .size, slotted (c .before .before))
+  part-write-node-start : write-below-lts.Need-part-write-node-start claims Pre write-below.Post
+  part-write-node-start c = let h = cut (c .before .before) in omega (arith, h .small, h .least, h .less, start (c .before .before) .pre .1 .0 .sorted .size, slotted (c .before .before))
 
-  part-write-off-end : write-below-lts.Need-part-write-off-end claims Pre write-below.Post
-  part-write-off-end c = let h = cut (c .before .before) in omega (arith, h .small, h .least, h .less, start (c .before .before) .pre .1 .0 .sorted .size, slotted (c .before .before))
+  part-write-node-end : write-below-lts.Need-part-write-node-end claims Pre write-below.Post
+  part-write-node-end c = let h = cut (c .before .before) in omega (arith, h .small, h .least, h .less, start (c .before .before) .pre .1 .0 .sorted .size, slotted (c .before .before))
 
   -- the label has not the prefix
   off-way : (c : write-below-lts.Then2 claims Pre write-below.Post)
-      → wayBytes (label (c .before .before)) (whole (c .before .before)) ≡ endBytes (off (prefix (c .before .before)) (digest (top (low (c .before .before)))) (digest (top (high (c .before .before)))))
+      → wayBytes (label (c .before .before)) (whole (c .before .before)) ≡ 2 ∷ nodeBytes (prefix (c .before .before)) (digest (top (low (c .before .before))) ++ digest (top (high (c .before .before))))
   off-way c =
       let w = c .before .before in
-      off-bytes (label w) _ _ _ _ (cut w .tree) (sym (c .before .has-prefix .ensures) ∙ not-true _ (c .if2 .taken))
+      off-bytes (label w) _ _ _ _ (cut w .tree) (sym (c .before .has-prefix .ensures) ∙ not-true _ (c .if2 .taken)) ∙ E.off-bytes (prefix w) _ _
 
   slot : (c : write-below-lts.After-fork-of claims Pre write-below.Post)
       → take (left c * 64 - (left c - 1) * 64) (drop ((left c - 1) * 64) (start c .args .slots .now)) ≡ digest (top (low c)) ++ digest (top (high c))
@@ -172,30 +172,26 @@ module _ (t : ℕ) where
       ap (λ i. take i (drop ((left c - 1) * 64) (a .slots .now))) e
       ∙ the-slot (a .n) (a .from) (a .s .now) (bits c) (left c) (start c .pre .1 .0 .sorted) (cut c) (a .slots .now) (start c .pre .1 .1)
 
-  write-off-requires : write-below-lts.Need-write-off-requires claims Pre write-below.Post
-  write-off-requires c κs =
+  write-node-requires : write-below-lts.Need-write-node-requires claims Pre write-below.Post
+  write-node-requires c κs =
       let w = c .before .before .before .before in
       let h = cut w in
       let l = slot-wide (low w) (high w) in (
         omega (arith, h .less, start w .pre .1 .0 .sorted .size),
         omega (arith, h .small),
         ap length (slot w) ∙ l,
-        omega (arith, start w .pre .1 .3, ap length (off-way (c .before .before)), off-long (prefix w) (digest (top (low w))) (digest (top (high w))), length-append (digest (top (low w))) (digest (top (high w))), l),
+        omega (arith, start w .pre .1 .3, ap length (off-way (c .before .before)), E.node-long (prefix w) (digest (top (low w)) ++ digest (top (high w))), l),
       )
 
   same-length-2 : write-below-lts.Need-same-length-2 claims Pre write-below.Post
-  same-length-2 c = c .before .before .write-off .kept .1 .1 .1 .0
+  same-length-2 c = c .before .before .write-node .kept .1 .1 .1 .1 .0
 
   returns-2 : write-below-lts.Need-returns-2 claims Pre write-below.Post
   returns-2 c =
       let w = c .before .before .before .before .before .before .before in
       let a = start w .args in
-      let x = digest (top (low w)) in
-      let y = digest (top (high w)) in
-      let e : take 32 (x ++ y) ≡ x = take-at x y 32 (digest-wide (nodeString (top (low w))) .size) in
-      let f : drop 32 (x ++ y) ≡ y = drop-at x y 32 (digest-wide (nodeString (top (low w))) .size) in
-      let q = (λ i. endBytes (off (prefix w) (take 32 (slot w i)) (drop 32 (slot w i)))) ∙ ap₂ (λ l r. endBytes (off (prefix w) l r)) e f ∙ sym (off-way (c .before .before .before .before .before)) in
-      subst (λ z. Wrote (a .out .now) (a .at) z (c .before .before .write-off .last .1 .1 .1 .0) (c .before .before .write-off .result)) q (c .before .before .write-off .ensures)
+      let q = ap (λ d. 2 ∷ nodeBytes (prefix w) d) (slot w) ∙ sym (off-way (c .before .before .before .before .before)) in
+      subst (λ z. Wrote (a .out .now) (a .at) z (c .before .before .write-node .last .1 .1 .1 .1 .0) (c .before .before .write-node .result)) q (c .before .before .write-node .ensures)
 
   mul-middle : write-below-lts.Need-mul-middle claims Pre write-below.Post
   mul-middle c = let h = cut (c .before .before) in omega (arith, h .small, h .least, h .less, start (c .before .before) .pre .1 .0 .sorted .size, slotted (c .before .before))
@@ -342,10 +338,10 @@ pub +write-below-spec : {M : Type 1} → statement M
     (mul-slot t)
     (mul-behind t)
     (has-prefix-requires t)
-    (sub-write-off t)
-    (part-write-off-start t)
-    (part-write-off-end t)
-    (write-off-requires t)
+    (sub-write-node t)
+    (part-write-node-start t)
+    (part-write-node-end t)
+    (write-node-requires t)
     (same-length-2 t)
     (returns-2 t)
     (mul-middle t)
