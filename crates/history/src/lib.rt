@@ -5,6 +5,7 @@ mod rows;
 
 use names::is_name;
 use paper::HistoryAnswer;
+use plan::Place;
 use plan::history_paths;
 use rows::absent_markers;
 use rows::absent_versions;
@@ -16,7 +17,6 @@ use shown::FORM;
 use shown::Front;
 use shown::HEAD;
 use shown::INPUT;
-use shown::Place;
 use shown::Walk;
 use shown::first_path;
 use shown::head_hashes;

@@ -27,7 +27,7 @@ use Rattle.paper.proofs.Fits.{proof-fits}
 use Rattle.shown.specs.Form.{frontAt, headIn, ItemStands, commitmentIn}
 use Rattle.shown.specs.Walk.{askedOf, stepped, walked, walks, epochIn}
 use Rattle.shown.specs.declared.Front.the-variants as F
-use Rattle.shown.specs.declared.Place.the-variants.{AsMarker}
+use Rattle.plan.specs.declared.Place.the-variants.{AsMarker}
 use Rattle.shown.specs.declared.Asked.{Asked}
 use Rattle.shown.specs.declared.Walk.{Walk}
 use Rattle.shown.specs.declared.Walk.the-variants.{On, Refused}

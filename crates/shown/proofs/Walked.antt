@@ -26,8 +26,9 @@ use Rattle.paper.proofs.Counts.{nodes-length}
 use Rattle.path.specs.Parsed.{commitmentOf}
 use Rattle.path.specs.Taken.{absentBy, shownAt, takenOf, taken}
 use Rattle.path.specs.declared.Taken.{Taken}
+use Rattle.plan.specs.Asked.{placeOf}
 use Rattle.shown.specs.Form.{headIn}
-use Rattle.shown.specs.Walk.{placeOf, askedOf, termsOf, labelOf, onTerms, metBy, leafEpoch, steppedOf, stepped, walked, walks, Ready}
+use Rattle.shown.specs.Walk.{askedOf, termsOf, labelOf, onTerms, metBy, leafEpoch, steppedOf, stepped, walked, walks, Ready}
 use Rattle.shown.specs.declared.Asked.{Asked}
 use Rattle.shown.specs.declared.Walk.{Walk}
 use Rattle.shown.specs.declared.Walk.the-variants.{On, Refused}
