@@ -3,6 +3,7 @@
 mod leaves;
 mod rows;
 
+use fields::After;
 use names::is_name;
 use paper::HistoryAnswer;
 use plan::Place;
@@ -12,7 +13,6 @@ use rows::absent_versions;
 use rows::markers;
 use rows::replaced;
 use rows::versions;
-use shown::After;
 use shown::FORM;
 use shown::Front;
 use shown::HEAD;

@@ -31,7 +31,7 @@ use Rattle.plan.specs.declared.Place.the-variants.{AsMarker}
 use Rattle.shown.specs.declared.Asked.{Asked}
 use Rattle.shown.specs.declared.Walk.{Walk}
 use Rattle.shown.specs.declared.Walk.the-variants.{On, Refused}
-use Rattle.shown.proofs.Behind.{First, first-of}
+use Rattle.fields.proofs.Behind.{First, first-of}
 use Rattle.shown.proofs.Keyed.{item-told}
 use Rattle.shown.proofs.Fronts.{front-told}
 use Rattle.shown.proofs.Formed.{Formed}

@@ -28,12 +28,6 @@ pub const ROOT: u8 = 4;
 
 pub const RULE: u8 = 5;
 
-// The place behind what was read, if anything was.
-pub enum After {
-    At(usize),
-    Nowhere,
-}
-
 // What the 108 bytes of header, head and number say, where they are in layout: the number, and the head's epoch.
 pub enum Front {
     Read { number: u16, epoch: u32 },
