@@ -17,9 +17,9 @@ use Rattle.paper.specs.Audit.{AuditRecord, auditRecordField, listField, Audit, 
 use Rattle.paper.proofs.Lists.{not-both, and-left, and-right, all-take, all-drop}
 use Rattle.paper.proofs.Bytes.{number-lt}
 use Rattle.words.proofs.Pasted.{length-part}
+use Rattle.fields.specs.After.{afterOf, afterAt}
+use Rattle.fields.specs.declared.After.the-variants.{At, Nowhere}
 use Rattle.audit_form.specs.Places.{recordAt, recordsAt, headAt, countAt, behindAt, auditAt, Formed, Listed, Laid}
-use Rattle.audit_form.specs.Walk.{afterRead}
-use Rattle.audit_form.specs.declared.After.the-variants.{At, Nowhere}
 use Rattle.audit_form.proofs.At.{ReadAt, block-at, fixed-at, within-at, seq-at, led-at, view-at, then-cond, over-cond}
 use Rattle.audit_form.proofs.Record.{in-layout-at, formed, record-at, record-short, record-tells}
 
@@ -62,32 +62,25 @@ all-each s at (suc n) w e (suc i) h =
 -- ---- the walk over records
 
 -- the place behind what was read, and whether nothing follows
-after-cond : {A : Type 0} (s : Bytes) (t : Bool) (x : A) (e : ℕ) → (t ≡ true → e ≤ length s) → afterRead s (cond t (got x (drop e s)) bad) ≡ cond t (At e) Nowhere
+after-cond : {A : Type 0} (s : Bytes) (t : Bool) (x : A) (e : ℕ) → (t ≡ true → e ≤ length s) → afterOf (length s) (cond t (got x (drop e s)) bad) ≡ cond t (At e) Nowhere
 after-cond s true x e h = let q : length s - length (drop e s) ≡ e = omega (arith, h refl, length-drop e s) in ap At q
 after-cond s false x e h = refl
 
-pub records-none : (s : Bytes) (at : ℕ) → at ≤ length s → afterRead s (times 0 auditRecordField .read (drop at s)) ≡ At at
-unfolding times timesRead
-records-none s at h = after-cond {A = List AuditRecord} s true [] at (λ _. h)
+walked : (s : Bytes) (at n : ℕ) → at ≤ length s → afterAt (times n auditRecordField) s at ≡ cond (allFormed s at n) (At (at + n * 99)) Nowhere
+walked s at n h = ap (afterOf (length s)) (records-at s at n .reads) ∙ after-cond s (allFormed s at n) (recordsAt s at n) (at + n * 99) (all-reach s at n h)
 
-walked : (s : Bytes) (at n : ℕ) → at ≤ length s → afterRead s (times n auditRecordField .read (drop at s)) ≡ cond (allFormed s at n) (At (at + n * 99)) Nowhere
-walked s at n h = ap (afterRead s) (records-at s at n .reads) ∙ after-cond s (allFormed s at n) (recordsAt s at n) (at + n * 99) (all-reach s at n h)
+-- a record in layout, and the place behind it; one out of layout, and there is none
+record-after : (s : Bytes) (at : ℕ) → afterAt auditRecordField s at ≡ cond (inLayout (auditRecordField .read (drop at s))) (At (at + 99)) Nowhere
+record-after s at = ap (afterOf (length s)) (record-at s at .reads) ∙ rw (in-layout-at (record-at s at)) (after-cond s (formed s at) (recordAt s at) (at + 99) (formed-reach s at))
 
--- a record in layout, and the walk goes on behind it; one out of layout, and it ends
 pub record-reach : (s : Bytes) (at : ℕ) → inLayout (auditRecordField .read (drop at s)) ≡ true → at + 99 ≤ length s
 record-reach s at e = formed-reach s at (sym (in-layout-at (record-at s at)) ∙ e)
 
-pub records-more : (s : Bytes) (at n : ℕ) → at ≤ length s → inLayout (auditRecordField .read (drop at s)) ≡ true
-    → afterRead s (times (suc n) auditRecordField .read (drop at s)) ≡ afterRead s (times n auditRecordField .read (drop (at + 99) s))
-unfolding allFormed
-records-more s at n h e =
-    let z : at + 99 + n * 99 ≡ at + suc n * 99 = omega arith in
-    walked s at (suc n) h ∙ rw (sym (in-layout-at (record-at s at)) ∙ e, ← z) (sym (walked s (at + 99) n (record-reach s at e)))
+pub record-on : (s : Bytes) (at : ℕ) → inLayout (auditRecordField .read (drop at s)) ≡ true → afterAt auditRecordField s at ≡ At (at + 99)
+record-on s at e = record-after s at ∙ rw e
 
-pub records-stop : (s : Bytes) (at n : ℕ) → at ≤ length s → inLayout (auditRecordField .read (drop at s)) ≡ false
-    → afterRead s (times (suc n) auditRecordField .read (drop at s)) ≡ Nowhere
-unfolding allFormed
-records-stop s at n h e = walked s at (suc n) h ∙ rw (sym (in-layout-at (record-at s at)) ∙ e)
+pub record-stop : (s : Bytes) (at : ℕ) → inLayout (auditRecordField .read (drop at s)) ≡ false → afterAt auditRecordField s at ≡ Nowhere
+record-stop s at e = record-after s at ∙ rw e
 
 -- ---- a list
 
@@ -110,19 +103,19 @@ module _ (s : Bytes) (at : ℕ) where
       let f = and-right (leb (at + 4) (length s)) _ (and-left _ _ e) in
       record { reach = list-reach e; few = leb-true (countAt s at) auditMost (and-right (leb 0 (countAt s at)) _ f); each = all-each s (at + 4) (countAt s at) w a }
 
-  list-after : afterRead s (listField .read (drop at s)) ≡ cond listTest (At (behindAt s at)) Nowhere
-  list-after = ap (afterRead s) (list-at .reads) ∙ after-cond s listTest (recordsAt s (at + 4) (countAt s at)) (behindAt s at) list-reach
+  list-after : afterAt listField s at ≡ cond listTest (At (behindAt s at)) Nowhere
+  list-after = ap (afterOf (length s)) (list-at .reads) ∙ after-cond s listTest (recordsAt s (at + 4) (countAt s at)) (behindAt s at) list-reach
 
   -- too short for a count, too large a count, and the walk over the records
-  pub list-short : length s < at + 4 → afterRead s (listField .read (drop at s)) ≡ Nowhere
+  pub list-short : length s < at + 4 → afterAt listField s at ≡ Nowhere
   unfolding listTest
   list-short h = list-after ∙ rw (lt-leb (at + 4) (length s) h)
 
-  pub list-many : auditMost < countAt s at → afterRead s (listField .read (drop at s)) ≡ Nowhere
+  pub list-many : auditMost < countAt s at → afterAt listField s at ≡ Nowhere
   unfolding listTest
   list-many h = list-after ∙ rw (lt-leb (countAt s at) auditMost h) (simp and-false)
 
-  pub list-walk : at + 4 ≤ length s → countAt s at ≤ auditMost → afterRead s (listField .read (drop at s)) ≡ afterRead s (times (countAt s at) auditRecordField .read (drop (at + 4) s))
+  pub list-walk : at + 4 ≤ length s → countAt s at ≤ auditMost → afterAt listField s at ≡ afterAt (times (countAt s at) auditRecordField) s (at + 4)
   unfolding listTest behindAt
   list-walk h l = list-after ∙ rw (le-leb (at + 4) (length s) h, le-leb 0 (countAt s at) (omega arith), le-leb (countAt s at) auditMost l) (sym (walked s (at + 4) (countAt s at) h))
 
@@ -161,25 +154,25 @@ one-place true e f q = (refl, cc)
 one-place false e f q = let z : _≡_ {A = ℕ} 0 1 = cc in absurd (omega arith)
 
 module _ (s : Bytes) (at : ℕ) where
-  no-list : afterRead s (listField .read (drop at s)) ≡ Nowhere → listTest s at ≡ false
+  no-list : afterAt listField s at ≡ Nowhere → listTest s at ≡ false
   no-list q = no-place (listTest s at) (behindAt s at) (sym (list-after s at) ∙ q)
 
-  one-list : (e : ℕ) → afterRead s (listField .read (drop at s)) ≡ At e → (listTest s at ≡ true) × (behindAt s at ≡ e)
+  one-list : (e : ℕ) → afterAt listField s at ≡ At e → (listTest s at ≡ true) × (behindAt s at ≡ e)
   one-list e q = one-place (listTest s at) (behindAt s at) e (sym (list-after s at) ∙ q)
 
   list-whole : inLayout (parse listField (drop at s)) ≡ (listTest s at && ended (drop (behindAt s at) s))
   list-whole = ap (λ m. inLayout (whole m)) (list-at s at .reads) ∙ whole-cond (listTest s at) _ (drop (behindAt s at) s)
 
   -- no list ends the bytes, and a list does
-  pub list-none : afterRead s (listField .read (drop at s)) ≡ Nowhere → inLayout (parse listField (drop at s)) ≡ false
+  pub list-none : afterAt listField s at ≡ Nowhere → inLayout (parse listField (drop at s)) ≡ false
   list-none q = list-whole ∙ rw (no-list q)
 
-  pub list-end : (e : ℕ) → afterRead s (listField .read (drop at s)) ≡ At e → inLayout (parse listField (drop at s)) ≡ eqb e (length s)
+  pub list-end : (e : ℕ) → afterAt listField s at ≡ At e → inLayout (parse listField (drop at s)) ≡ eqb e (length s)
   list-end e q =
       let (t, b) = one-list e q in
       list-whole ∙ rw t (ended-at s (behindAt s at) (list-reach s at t) ∙ ap (λ n. eqb n (length s)) b)
 
-  pub list-place : (e : ℕ) → afterRead s (listField .read (drop at s)) ≡ At e → e ≤ length s
+  pub list-place : (e : ℕ) → afterAt listField s at ≡ At e → e ≤ length s
   list-place e q = let (t, b) = one-list e q in rw b at (list-reach s at t)
 
 -- what a list reads as, stands at its place
@@ -252,12 +245,12 @@ module _ (s : Bytes) where
   unfolding auditTest opensTest be
   audit-closed e = audit-whole s ∙ rw e
 
-  pub audit-none : afterRead s (listField .read (drop 206 s)) ≡ Nowhere → inLayout (parse auditField s) ≡ false
+  pub audit-none : afterAt listField s 206 ≡ Nowhere → inLayout (parse auditField s) ≡ false
   unfolding auditTest
   audit-none q = audit-whole s ∙ rw (no-list s 206 q) (simp and-false)
 
   pub audit-ends : Bytewise s → 206 ≤ length s → same (take 6 s) (0x56 ∷ 0x4B ∷ 0x44 ∷ 0 ∷ 1 ∷ 3 ∷ []) ≡ true
-      → (e : ℕ) → afterRead s (listField .read (drop 206 s)) ≡ At e → inLayout (parse auditField s) ≡ inLayout (parse listField (drop e s))
+      → (e : ℕ) → afterAt listField s 206 ≡ At e → inLayout (parse auditField s) ≡ inLayout (parse listField (drop e s))
   unfolding auditTest opensTest be
   audit-ends w h o e q =
       let (t, b) = one-list s 206 e q in

@@ -1,3 +1,2 @@
 -- What the contracts of the audit's layout cite.
 pub mod Places
-pub mod Walk

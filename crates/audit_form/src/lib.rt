@@ -1,6 +1,7 @@
 // The layout of an audit proof, tested over the lent bytes before anything else is. Nothing is copied: a step hands the
 // next one a place in the bytes, and no more.
 use bits::prefix_of;
+use fields::After;
 use words::all_zero;
 use words::read16;
 use words::read32;
@@ -11,17 +12,11 @@ ghost use lib.ListN.{length, drop};
 ghost use Rattle.paper.specs.Layout.{times, parse, inLayout};
 ghost use Rattle.paper.specs.Fields.{prefixField};
 ghost use Rattle.paper.specs.Audit.{leafFields, auditRecordField, listField, auditField};
+ghost use Rattle.fields.specs.After.{afterAt};
 ghost use Rattle.audit_form.specs.Places.{labelAt};
-ghost use Rattle.audit_form.specs.Walk.{afterRead};
 
 // "Each proof begins "VKD", 16-bit version 1, kind 1 (1 lookup, 2 history, 3 audit)".
 const OPENS: [u8; 6] = [0x56, 0x4B, 0x44, 0, 1, 3];
-
-// The place behind what was read, if anything was.
-pub enum After {
-    At(usize),
-    Nowhere,
-}
 
 // The 32 bytes of label or prefix in the record at `at`, as a part of the lent bytes.
 pub fn label_at(s: &[u8], at: usize) -> &[u8]
@@ -78,7 +73,7 @@ fn record_form(s: &[u8], at: usize) -> bool
 // The place behind n records.
 fn after_records(s: &[u8], at: usize, n: usize) -> After
     requires { ⌜ at ≤ length (now s) ⌝ }
-    ensures { λ r. ⌜ r ≡ afterRead (now (s .entry)) (times n auditRecordField .read (drop at (now (s .entry)))) ⌝ }
+    ensures { λ r. ⌜ r ≡ afterAt (times n auditRecordField) (now (s .entry)) at ⌝ }
 {
     let mut place = at;
     for _ in 0..n {
@@ -93,7 +88,7 @@ fn after_records(s: &[u8], at: usize, n: usize) -> After
 // The place behind a list: "a count (4) and records", 0 to 16,384 of them.
 fn after_list(s: &[u8], at: usize) -> After
     requires { ⌜ at ≤ length (now s) ⌝ }
-    ensures { λ r. ⌜ r ≡ afterRead (now (s .entry)) (listField .read (drop at (now (s .entry)))) ⌝ }
+    ensures { λ r. ⌜ r ≡ afterAt listField (now (s .entry)) at ⌝ }
 {
     if s.len() - at < 4 {
         return After::Nowhere;

@@ -17,7 +17,7 @@ use Rattle.paper.specs.History.{historyAsked, historyField, historyTerms, histo
 use Rattle.paper.specs.declared.HistoryAnswer.the-variants as H
 use Rattle.shown.specs.Form.{frontAt, headIn, firstPath}
 use Rattle.shown.specs.Walk.{walks}
-use Rattle.shown.specs.declared.After.the-variants.{Nowhere}
+use Rattle.fields.specs.declared.After.the-variants.{Nowhere}
 use Rattle.shown.specs.declared.Front.the-variants as F
 use Rattle.shown.specs.declared.Walk.the-variants.{On}
 use Rattle.shown.proofs.Formed.{front-refused, body-refused, Formed}

@@ -18,9 +18,9 @@ use Rattle.paper.proofs.Layouts.{Lawful}
 use Rattle.paper.proofs.Proofs.{item-lawful}
 use Rattle.paper.proofs.Fits.{item-fits}
 use Rattle.path.specs.Parsed.{placed, pathOf, pathAt}
-use Rattle.shown.specs.Form.{afterOf}
-use Rattle.shown.specs.declared.After.the-variants.{At}
-use Rattle.shown.proofs.Behind.{First, first-of}
+use Rattle.fields.specs.After.{afterOf}
+use Rattle.fields.specs.declared.After.the-variants.{At}
+use Rattle.fields.proofs.Behind.{First, first-of}
 use Rattle.shown.proofs.Keyed.{item-told, item-after}
 use Rattle.history.specs.Asks.{endEpoch, onward, itemOn, pathOn}
 

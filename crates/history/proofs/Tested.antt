@@ -34,8 +34,8 @@ use Rattle.shown.specs.Form.{frontAt, headIn, itemIn, ItemStands, commitmentIn}
 use Rattle.shown.specs.Walk.{askedOf, walks}
 use Rattle.shown.specs.declared.Front.the-variants as F
 use Rattle.shown.specs.declared.Asked.{Asked}
-use Rattle.shown.specs.declared.Place.{Place}
-use Rattle.shown.specs.declared.Place.the-variants.{InAll, InOld, AsMarker}
+use Rattle.plan.specs.declared.Place.{Place}
+use Rattle.plan.specs.declared.Place.the-variants.{InAll, InOld, AsMarker}
 use Rattle.shown.specs.declared.Walk.{Walk}
 use Rattle.shown.specs.declared.Walk.the-variants.{On, Refused}
 use Rattle.shown.proofs.Keyed.{item-told}

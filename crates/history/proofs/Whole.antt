@@ -11,7 +11,7 @@ use Rattle.paper.specs.History.{historyAsked, markersBy}
 use Rattle.plan.proofs.Markers.{by-most}
 use Rattle.plan.proofs.Rows.{asked-length}
 use Rattle.shown.specs.Walk.{walked, walks}
-use Rattle.shown.specs.declared.Place.the-variants.{InOld}
+use Rattle.plan.specs.declared.Place.the-variants.{InOld}
 use Rattle.shown.specs.declared.Asked.{Asked}
 use Rattle.shown.specs.declared.Walk.{Walk}
 use Rattle.shown.proofs.Walked.{walks-append}

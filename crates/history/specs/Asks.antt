@@ -14,8 +14,8 @@ use Rattle.path.specs.Parsed.{pathAt}
 use Rattle.path.specs.declared.End.{End}
 use Rattle.path.specs.declared.End.the-variants.{This, Other, Off, Nothing}
 use Rattle.shown.specs.Form.{ItemStands, commitmentIn}
-use Rattle.shown.specs.declared.Place.{Place}
-use Rattle.shown.specs.declared.Place.the-variants.{InAll, InOld, AsMarker}
+use Rattle.plan.specs.declared.Place.{Place}
+use Rattle.plan.specs.declared.Place.the-variants.{InAll, InOld, AsMarker}
 use Rattle.shown.specs.declared.Asked.{Asked}
 use Rattle.shown.specs.declared.Walk.{Walk}
 use Rattle.shown.specs.declared.Walk.the-variants.{On, Refused}

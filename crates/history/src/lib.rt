@@ -3,20 +3,20 @@
 mod leaves;
 mod rows;
 
+use fields::After;
 use names::is_name;
 use paper::HistoryAnswer;
+use plan::Place;
 use plan::history_paths;
 use rows::absent_markers;
 use rows::absent_versions;
 use rows::markers;
 use rows::replaced;
 use rows::versions;
-use shown::After;
 use shown::FORM;
 use shown::Front;
 use shown::HEAD;
 use shown::INPUT;
-use shown::Place;
 use shown::Walk;
 use shown::first_path;
 use shown::head_hashes;

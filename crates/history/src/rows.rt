@@ -1,7 +1,7 @@
 // The rows of a history's paths, each taken in order from where the walk is.
 use crate::leaves::epoch_behind;
 use crate::leaves::leaf_at;
-use shown::Place;
+use plan::Place;
 use shown::Walk;
 use shown::commitment_at;
 use shown::missing;

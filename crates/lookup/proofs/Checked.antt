@@ -24,7 +24,7 @@ use Rattle.paper.proofs.Accepted.{lookup-told}
 use Rattle.words.proofs.Pasted.{part-is}
 use Rattle.words.proofs.Number.{number-one}
 use Rattle.shown.specs.Form.{frontAt, headIn, firstPath, ItemStands}
-use Rattle.shown.specs.declared.After.the-variants.{Nowhere}
+use Rattle.fields.specs.declared.After.the-variants.{Nowhere}
 use Rattle.shown.specs.declared.Front.the-variants as F
 use Rattle.shown.proofs.Fronts.{front-told}
 use Rattle.shown.proofs.Formed.{front-refused, body-refused, Formed, parsed}

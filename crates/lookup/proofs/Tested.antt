@@ -25,11 +25,11 @@ use Rattle.paper.proofs.Fits.{proof-fits}
 use Rattle.shown.specs.Form.{frontAt, headIn, ItemStands, commitmentIn}
 use Rattle.shown.specs.Walk.{askedOf, stepped, walked, walks, epochIn}
 use Rattle.shown.specs.declared.Front.the-variants as F
-use Rattle.shown.specs.declared.Place.the-variants.{AsMarker}
+use Rattle.plan.specs.declared.Place.the-variants.{AsMarker}
 use Rattle.shown.specs.declared.Asked.{Asked}
 use Rattle.shown.specs.declared.Walk.{Walk}
 use Rattle.shown.specs.declared.Walk.the-variants.{On, Refused}
-use Rattle.shown.proofs.Behind.{First, first-of}
+use Rattle.fields.proofs.Behind.{First, first-of}
 use Rattle.shown.proofs.Keyed.{item-told}
 use Rattle.shown.proofs.Fronts.{front-told}
 use Rattle.shown.proofs.Formed.{Formed}

@@ -9,7 +9,7 @@ use Rattle.paper.specs.declared.LookupAnswer.{LookupAnswer}
 use Rattle.paper.specs.declared.LookupAnswer.the-variants as L
 use Rattle.shown.specs.Form.{ItemStands, commitmentIn}
 use Rattle.shown.specs.Walk.{walked, epochIn}
-use Rattle.shown.specs.declared.Place.the-variants.{InAll, InOld, AsMarker}
+use Rattle.plan.specs.declared.Place.the-variants.{InAll, InOld, AsMarker}
 use Rattle.shown.specs.declared.Asked.{Asked}
 use Rattle.shown.specs.declared.Walk.{Walk}
 use Rattle.shown.specs.declared.Walk.the-variants.{On, Refused}

@@ -3,11 +3,11 @@
 mod key;
 mod paths;
 
+use fields::After;
 pub use key::accepted_key;
 use names::is_name;
 use paper::LookupAnswer;
 use paths::walk_of;
-use shown::After;
 use shown::FORM;
 use shown::Front;
 use shown::HEAD;

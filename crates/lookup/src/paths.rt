@@ -1,6 +1,6 @@
 // The paths of a lookup, in their order.
 use bits::marker_of;
-use shown::Place;
+use plan::Place;
 use shown::Walk;
 use shown::commitment_at;
 use shown::epoch_of;

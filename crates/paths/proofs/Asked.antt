@@ -19,19 +19,15 @@ use Rattle.paper.specs.Table.{holds}
 use Rattle.paper.specs.Shows as P
 use Rattle.words.proofs.Pasted.{pasted-none}
 use Rattle.table.proofs.Own.{every-snoc}
-use Rattle.plan.specs.Asked.{placed, asked}
+use Rattle.plan.specs.Asked.{placeOf, asked}
 use Rattle.plan.specs.declared.Asked.{Asked}
+use Rattle.plan.proofs.Places.{place-back}
 use Rattle.tree_path.specs.Written.{Wrote}
 use Rattle.tree_path.proofs.Writing.{times-append, times-one, wrote-next}
-use Rattle.paths.specs.Paths.{placeOf, labelOf, wanted, leavesFor, pathFor, freeFor, pathBytes, Sized, Joined, Measured}
+use Rattle.paths.specs.Paths.{labelOf, wanted, leavesFor, pathFor, freeFor, pathBytes, Sized, Joined, Measured}
 use Rattle.paths.specs.declared.Measure.{Measure}
 
 -- what the plan asks is what is wanted
-pub place-back : (x : P.Place) → placeOf (placed x) ≡ x
-place-back (P.inAll i) = refl
-place-back (P.inOld i) = refl
-place-back (P.asMarker j) = refl
-
 pub wanted-back : (a : P.Asked) → wanted (asked a) ≡ a
 wanted-back a = ap (λ (x : P.Place). record { place = x; there = a .there }) (place-back (a .place))
 

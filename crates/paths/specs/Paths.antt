@@ -18,8 +18,8 @@ use Rattle.paper.specs.Table.{holds}
 use Rattle.paper.specs.Shows as P
 use Rattle.paper.specs.Lookup.{lookupAsked}
 use Rattle.paper.specs.History.{historyAsked}
+use Rattle.plan.specs.Asked.{placeOf}
 use Rattle.plan.specs.declared.Place.{Place}
-use Rattle.plan.specs.declared.Place.the-variants.{InAll, InOld, AsMarker}
 use Rattle.plan.specs.declared.Asked.{Asked}
 use Rattle.tree.specs.Stored.{Sorted, Stored}
 use Rattle.forest.specs.declared.Grown.{Grown}
@@ -34,12 +34,7 @@ askedBy false n t = lookupAsked n
 abbrev pub askedOf : Plan → List P.Asked
 askedOf p = askedBy (p .history) (p .number) (p .epoch)
 
--- a place, and what is asked of it, as document 01's definitions have them
-abbrev pub placeOf : Place → P.Place
-placeOf (InAll i) = P.inAll i
-placeOf (InOld i) = P.inOld i
-placeOf (AsMarker j) = P.asMarker j
-
+-- what is asked of a place, as document 01's definitions have it
 abbrev pub wanted : Asked → P.Asked
 wanted a = record { place = placeOf (a .place); there = a .there }
 

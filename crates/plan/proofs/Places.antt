@@ -1,16 +1,9 @@
--- The values that the code returns stand for one place of the definitions each: nothing is lost on the way. Assumes nothing.
+-- The values that the code has stand for one place of the definitions each: nothing is lost on the way. Assumes nothing.
 use mathlib.Core.Path.{_≡_, refl}
 use Rattle.paper.specs.Shows as P
-use Rattle.plan.specs.declared.Place.{Place}
-use Rattle.plan.specs.declared.Place.the-variants.{InAll, InOld, AsMarker}
-use Rattle.plan.specs.Asked.{placed}
+use Rattle.plan.specs.Asked.{placed, placeOf}
 
-abbrev pub meant : Place → P.Place
-meant (InAll i) = P.inAll i
-meant (InOld i) = P.inOld i
-meant (AsMarker j) = P.asMarker j
-
-pub meant-placed : (x : P.Place) → meant (placed x) ≡ x
-meant-placed (P.inAll i) = refl
-meant-placed (P.inOld i) = refl
-meant-placed (P.asMarker j) = refl
+pub place-back : (x : P.Place) → placeOf (placed x) ≡ x
+place-back (P.inAll i) = refl
+place-back (P.inOld i) = refl
+place-back (P.asMarker j) = refl

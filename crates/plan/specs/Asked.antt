@@ -1,4 +1,4 @@
--- What the paths of a proof are asked to show, as the values that the code returns.
+-- What the paths of a proof are asked to show, as the values that the code has.
 use mathlib.Core.List.{List}
 use Prim.Native.Nat.{ℕ, zero, suc}
 use lib.ListN.{getD}
@@ -8,10 +8,16 @@ use Rattle.plan.specs.declared.Place.{Place}
 use Rattle.plan.specs.declared.Place.the-variants.{InAll, InOld, AsMarker}
 use Rattle.plan.specs.declared.Asked.{Asked}
 
+-- a place of document 01's definitions, and back
 abbrev pub placed : P.Place → Place
 placed (P.inAll i) = InAll i
 placed (P.inOld i) = InOld i
 placed (P.asMarker j) = AsMarker j
+
+abbrev pub placeOf : Place → P.Place
+placeOf (InAll i) = P.inAll i
+placeOf (InOld i) = P.inOld i
+placeOf (AsMarker j) = P.asMarker j
 
 abbrev pub asked : P.Asked → Asked
 asked a = record { place = placed (a .place); there = a .there }

@@ -13,12 +13,13 @@ use Rattle.paper.specs.Fields.{pathField}
 use Rattle.paper.specs.Shows.{Asked, Item, itemField, Proof, proofField}
 use Rattle.paper.proofs.Layouts.{times-lawful}
 use Rattle.paper.proofs.Proofs.{item-lawful}
-use Rattle.shown.specs.Form.{afterOf, afterAt, frontField, frontAt, headIn, bodyField, startOf, firstPath}
-use Rattle.shown.specs.declared.After.{After}
-use Rattle.shown.specs.declared.After.the-variants.{At, Nowhere}
+use Rattle.fields.specs.After.{afterOf, afterAt}
+use Rattle.shown.specs.Form.{frontField, frontAt, headIn, bodyField, startOf, firstPath}
+use Rattle.fields.specs.declared.After.{After}
+use Rattle.fields.specs.declared.After.the-variants.{At, Nowhere}
 use Rattle.shown.specs.declared.Front.{Front}
 use Rattle.shown.specs.declared.Front.the-variants as F
-use Rattle.shown.proofs.Behind.{Stood, stood}
+use Rattle.fields.proofs.Behind.{Stood, stood}
 use Rattle.shown.proofs.Fronts.{front-told, front-bad}
 
 -- ---- readings one behind the other

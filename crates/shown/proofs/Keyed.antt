@@ -15,8 +15,9 @@ use Rattle.paper.specs.Shows.{Item, itemField}
 use Rattle.paper.proofs.Lists.{all-drop}
 use Rattle.words.proofs.Number.{number-one}
 use Rattle.fields.proofs.Flat.{flat-yes, flat-short, flat-no, flat-got, block-flat, within-flat, inside, outside}
-use Rattle.shown.specs.Form.{afterOf, afterAt, itemIn, ItemStands}
-use Rattle.shown.specs.declared.After.the-variants.{At, Nowhere}
+use Rattle.fields.specs.After.{afterOf, afterAt}
+use Rattle.shown.specs.Form.{itemIn, ItemStands}
+use Rattle.fields.specs.declared.After.the-variants.{At, Nowhere}
 
 -- no length is there
 pub item-short : (s : Bytes) (at : ℕ) → length s ≤ at → afterAt itemField s at ≡ Nowhere

@@ -1,5 +1,4 @@
 -- Laws of what lookup and history checks share.
-pub mod Behind
 pub mod Keyed
 pub mod Fronts
 pub mod Formed

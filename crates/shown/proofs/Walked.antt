@@ -18,7 +18,6 @@ use Rattle.paper.specs.Path.{End, this, other, off, none, pathNodes, pathRoot, 
 use Rattle.paper.specs.Path as P
 use Rattle.paper.specs.Verdict.{verdict}
 use Rattle.paper.specs.Shows.{Terms, labelAt, rootAt, meets, pathTests, pathStrings}
-use Rattle.paper.specs.Shows as S
 use Rattle.paper.proofs.Lists.{all-drop}
 use Rattle.paper.proofs.Proofs.{path-lawful}
 use Rattle.paper.proofs.Fits.{path-fits}
@@ -26,12 +25,13 @@ use Rattle.paper.proofs.Counts.{nodes-length}
 use Rattle.path.specs.Parsed.{commitmentOf}
 use Rattle.path.specs.Taken.{absentBy, shownAt, takenOf, taken}
 use Rattle.path.specs.declared.Taken.{Taken}
+use Rattle.plan.specs.Asked.{placeOf}
 use Rattle.shown.specs.Form.{headIn}
-use Rattle.shown.specs.Walk.{placeOf, askedOf, termsOf, labelOf, onTerms, metBy, leafEpoch, steppedOf, stepped, walked, walks, Ready}
+use Rattle.shown.specs.Walk.{askedOf, termsOf, labelOf, onTerms, metBy, leafEpoch, steppedOf, stepped, walked, walks, Ready}
 use Rattle.shown.specs.declared.Asked.{Asked}
 use Rattle.shown.specs.declared.Walk.{Walk}
 use Rattle.shown.specs.declared.Walk.the-variants.{On, Refused}
-use Rattle.shown.proofs.Behind.{first-of}
+use Rattle.fields.proofs.Behind.{first-of}
 
 -- ---- one path
 

@@ -1,6 +1,6 @@
 -- The layout of a lookup or history proof by places.
 use mathlib.Core.List.{List}
-use Prim.Native.Nat.{ℕ, _+_, _-_, _≤_}
+use Prim.Native.Nat.{ℕ, _+_, _≤_}
 use lib.ListN.{length, take, drop, getD}
 use Rattle.fips.specs.Sha256.{sha256}
 use Rattle.paper.specs.Numbers.{versionMost, keyMost}
@@ -10,19 +10,10 @@ use Rattle.paper.specs.Layout.{Layout, Read, got, bad, within, seq, times, time
 use Rattle.paper.specs.Fields.{opens, headField, pathField}
 use Rattle.paper.specs.Path.{Path}
 use Rattle.paper.specs.Shows.{Item, itemField}
-use Rattle.shown.specs.declared.After.{After}
-use Rattle.shown.specs.declared.After.the-variants.{At, Nowhere}
+use Rattle.fields.specs.declared.After.{After}
+use Rattle.fields.specs.declared.After.the-variants.{At, Nowhere}
 use Rattle.shown.specs.declared.Front.{Front}
 use Rattle.shown.specs.declared.Front.the-variants as F
-
--- the place behind what was read in n bytes
-abbrev pub afterOf : {A : Type 0} → ℕ → Read A → After
-afterOf n bad = Nowhere
-afterOf n (got x r) = At (n - length r)
-
--- the place behind what a layout reads in s from `at` on
-abbrev pub afterAt : {A : Type 0} → Layout A → Bytes → ℕ → After
-afterAt a s at = afterOf (length s) (a .read (drop at s))
 
 -- "Each proof begins "VKD", 16-bit version 1, kind 1 .., then the 100 bytes of a head after its 0x03", and a number
 abbrev pub frontField : ℕ → Layout (Head × ℕ)

@@ -15,19 +15,14 @@ use Rattle.paper.specs.Shows.{kindOf, numberOf, Terms, pathTests}
 use Rattle.paper.specs.Shows as S
 use Rattle.path.specs.declared.Shown.{Shown}
 use Rattle.path.specs.declared.Shown.the-variants.{Present, Absent, Neither}
-use Rattle.shown.specs.declared.Place.{Place}
-use Rattle.shown.specs.declared.Place.the-variants.{InAll, InOld, AsMarker}
+use Rattle.plan.specs.Asked.{placeOf}
+use Rattle.plan.specs.declared.Place.{Place}
 use Rattle.shown.specs.declared.Asked.{Asked}
 use Rattle.shown.specs.declared.Walk.{Walk}
 use Rattle.shown.specs.declared.Walk.the-variants.{On, Refused}
 use Rattle.shown.specs.Form.{headIn}
 
--- a place, what is asked of it, and the terms, as document 01's definitions have them
-abbrev pub placeOf : Place → S.Place
-placeOf (InAll i) = S.inAll i
-placeOf (InOld i) = S.inOld i
-placeOf (AsMarker j) = S.asMarker j
-
+-- what is asked of a place, and the terms, as document 01's definitions have them
 abbrev pub askedOf : Asked → S.Asked
 askedOf a = record { place = placeOf (a .place); there = a .there }
 

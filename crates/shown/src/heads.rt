@@ -1,5 +1,5 @@
 // The head in a proof's front: "the 100 bytes of a head after its 0x03", behind the six bytes of the header.
-use crate::Place;
+use plan::Place;
 use words::digest_at;
 use words::read32;
 use words::same;
@@ -10,8 +10,8 @@ ghost use Rattle.fips.specs.Sha256.{sha256};
 ghost use Rattle.paper.specs.Bytes as B;
 ghost use Rattle.paper.specs.Strings.{headString};
 ghost use Rattle.paper.specs.Shows.{rootAt};
+ghost use Rattle.plan.specs.Asked.{placeOf};
 ghost use Rattle.shown.specs.Form.{headIn};
-ghost use Rattle.shown.specs.Walk.{placeOf};
 
 // "an opening does not hash to its head": whether it does.
 pub fn head_hashes(s: &[u8], head: &[u8]) -> bool

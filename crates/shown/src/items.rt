@@ -1,12 +1,13 @@
 // The keys of a proof, one behind the other: "key length, key, opening".
-use crate::After;
+use fields::After;
 use words::digest_at;
 ghost use mathlib.Core.Path.{_≡_};
 ghost use Prim.Native.Nat.{_≤_};
 ghost use lib.ListN.{length};
 ghost use Rattle.paper.specs.Layout.{times};
 ghost use Rattle.paper.specs.Shows.{itemField};
-ghost use Rattle.shown.specs.Form.{afterAt, ItemStands, commitmentIn};
+ghost use Rattle.fields.specs.After.{afterAt};
+ghost use Rattle.shown.specs.Form.{ItemStands, commitmentIn};
 
 // The place behind the item at `at`: "key | 1 to 64 bytes", "opening | 32 bytes".
 pub fn item_after(s: &[u8], at: usize) -> After

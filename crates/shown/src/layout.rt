@@ -1,7 +1,7 @@
 // The layout of a lookup or history proof: header, head and number in front, then keys, then paths, and nothing behind them.
-use crate::After;
 use crate::Front;
 use crate::items::items_after;
+use fields::After;
 use path::parse;
 use words::read16;
 use words::read32;
@@ -11,7 +11,8 @@ ghost use Prim.Native.Nat.{_≤_};
 ghost use lib.ListN.{length};
 ghost use Rattle.paper.specs.Layout.{times};
 ghost use Rattle.paper.specs.Fields.{pathField};
-ghost use Rattle.shown.specs.Form.{afterAt, frontAt, firstPath};
+ghost use Rattle.fields.specs.After.{afterAt};
+ghost use Rattle.shown.specs.Form.{frontAt, firstPath};
 
 // "Each proof begins "VKD", 16-bit version 1, kind 1", the head's 100 bytes, and a number from 0 to 1,023.
 pub fn read_front(s: &[u8], kind: u8) -> Front

@@ -11,6 +11,7 @@ pub use items::commitment_at;
 pub use items::item_after;
 pub use layout::first_path;
 pub use layout::read_front;
+use plan::Place;
 pub use walks::epoch_of;
 pub use walks::missing;
 pub use walks::present;
@@ -27,23 +28,10 @@ pub const ROOT: u8 = 4;
 
 pub const RULE: u8 = 5;
 
-// The place behind what was read, if anything was.
-pub enum After {
-    At(usize),
-    Nowhere,
-}
-
 // What the 108 bytes of header, head and number say, where they are in layout: the number, and the head's epoch.
 pub enum Front {
     Read { number: u16, epoch: u32 },
     Bad,
-}
-
-// A place in the trees: a version in *all*, a version in *old*, a marker in *all*.
-pub enum Place {
-    InAll(u16),
-    InOld(u16),
-    AsMarker(u16),
 }
 
 // What a path is asked to show of a place: that its label is not there; or that it is, with a commitment, at an epoch from

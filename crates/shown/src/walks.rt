@@ -1,13 +1,13 @@
 // Paths in their order, "4 before 5 for each".
 use crate::Asked;
 use crate::FORM;
-use crate::Place;
 use crate::ROOT;
 use crate::RULE;
 use crate::Walk;
 use crate::heads::root_at;
 use path::Shown;
 use path::take;
+use plan::Place;
 use words::same;
 ghost use mathlib.Core.Path.{_≡_};
 ghost use mathlib.Core.Bool.{true, false};

@@ -3,11 +3,10 @@ use borrow.Author.Needs.{needs}
 use native.Mathlib.Omega.{arith}
 use mathlib.Core.Path.{sym, ap, _∙_}
 use Prim.Native.Nat.{_+_}
-use lib.ListN.{drop}
 use Rattle.paper.specs.Layout.{times}
 use Rattle.paper.specs.Audit.{auditRecordField}
+use Rattle.fields.specs.After.{afterAt}
 use Rattle.audit_form.specs.Places.{countAt}
-use Rattle.audit_form.specs.Walk.{afterRead}
 use Rattle.audit_form.proofs.Form.{list-short, list-many, list-walk}
 use Rattle.audit_form.proofs.after_list.Statement.{statement}
 use Rattle.audit_form.proofs.after_list.Tie as tie
@@ -42,7 +41,7 @@ returns-3 c =
     let a = c .before .before .before .before .before .args in
     let n = c .before .before .read32 .ensures in
     c .after-records .ensures
-    ∙ ap (λ k. afterRead (a .s .now) (times k auditRecordField .read (drop (a .at + 4) (a .s .now)))) n
+    ∙ ap (λ k. afterAt (times k auditRecordField) (a .s .now) (a .at + 4)) n
     ∙ sym (list-walk (a .s .now) (a .at) (omega arith) (omega arith))
 
 pub after-list-spec : {M : Type 1} → statement M

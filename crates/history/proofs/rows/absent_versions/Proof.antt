@@ -3,7 +3,7 @@ use borrow.Author.Needs.{needs}
 use native.Mathlib.Omega.{arith}
 use Prim.Native.Nat.{_-_}
 use Rattle.words.proofs.Slices.{bytewise}
-use Rattle.shown.specs.declared.Place.the-variants.{InAll}
+use Rattle.plan.specs.declared.Place.the-variants.{InAll}
 use Rattle.history.specs.Asks.{lack}
 use Rattle.history.proofs.Going.{Going, going-starts, going-ready, going-on, going-ends}
 use Rattle.history.proofs.rows.absent_versions.Statement.{statement}

@@ -2,8 +2,9 @@
 use borrow.Author.Needs.{needs}
 use mathlib.Core.Path.{sym, ap}
 use Rattle.paper.specs.Level.{leavesIn}
+use Rattle.plan.specs.Asked.{placeOf}
 use Rattle.plan.specs.declared.Place.{Place}
-use Rattle.paths.specs.Paths.{placeOf, leavesFor}
+use Rattle.paths.specs.Paths.{leavesFor}
 use Rattle.paths.proofs.Asked.{measured-in}
 use Rattle.paths.proofs.sizes.measure_path.Statement.{statement}
 use Rattle.paths.proofs.sizes.measure_path.Tie as tie

@@ -4,8 +4,9 @@ use mathlib.Core.Path.{_≡_, sym, ap, _∙_}
 use lib.ListN.{length}
 use Rattle.paper.specs.Level.{leavesIn}
 use Rattle.paper.proofs.Fits.{digest-wide}
+use Rattle.plan.specs.Asked.{placeOf}
 use Rattle.plan.specs.declared.Place.{Place}
-use Rattle.paths.specs.Paths.{placeOf, leavesFor}
+use Rattle.paths.specs.Paths.{leavesFor}
 use Rattle.paths.proofs.Asked.{wrote-in, room-in}
 use Rattle.paths.proofs.write.write_one.Statement.{statement}
 use Rattle.paths.proofs.write.write_one.Tie as tie

@@ -10,8 +10,8 @@ use Rattle.paper.specs.Shows.{itemField}
 use Rattle.paper.specs.Bytes.{Bytewise}
 use Rattle.paper.proofs.Proofs.{item-lawful}
 use Rattle.words.proofs.Slices.{bytewise}
-use Rattle.shown.specs.Form.{afterAt}
-use Rattle.shown.proofs.Behind.{after-within, loop-on, loop-stop, loop-end}
+use Rattle.fields.specs.After.{afterAt}
+use Rattle.fields.proofs.Behind.{after-within, loop-on, loop-stop, loop-end}
 use Rattle.shown.proofs.items.items_after.Statement.{statement}
 use Rattle.shown.proofs.items.items_after.Tie as tie
 

@@ -7,9 +7,9 @@ use Rattle.paper.specs.Shows.{itemField}
 use Rattle.paper.proofs.Layouts.{times-lawful}
 use Rattle.paper.proofs.Proofs.{item-lawful}
 use Rattle.words.proofs.Slices.{bytewise}
-use Rattle.shown.specs.Form.{afterAt}
-use Rattle.shown.specs.declared.After.the-variants.{At}
-use Rattle.shown.proofs.Behind.{after-within}
+use Rattle.fields.specs.After.{afterAt}
+use Rattle.fields.specs.declared.After.the-variants.{At}
+use Rattle.fields.proofs.Behind.{after-within}
 use Rattle.shown.proofs.Formed.{first-keyless, first-pathless, first-more, first-at}
 use Rattle.shown.proofs.layout.first_path.Statement.{statement}
 use Rattle.shown.proofs.layout.first_path.Tie as tie

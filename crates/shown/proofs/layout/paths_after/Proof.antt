@@ -3,18 +3,42 @@ use borrow.Author.Needs.{needs}
 use borrow.Author.Tests.{not-true, not-false}
 use native.Mathlib.Omega.{arith}
 use native.Mathlib.Nat.{sub-zero}
-use mathlib.Core.Path.{_≡_, sym, _∙_}
-use Prim.Native.Nat.{_-_, _≤_}
-use lib.ListN.{length}
-use Rattle.paper.specs.Layout.{times}
+use mathlib.Core.Path.{_≡_, refl, sym, _∙_}
+use mathlib.Core.Bool.{true, false}
+use Prim.Native.Nat.{ℕ, _-_, _≤_}
+use lib.ListN.{length, drop}
+use Rattle.paper.specs.Layout.{Read, got, bad, times}
 use Rattle.paper.specs.Fields.{pathField}
-use Rattle.paper.specs.Bytes.{Bytewise}
+use Rattle.paper.specs.Path as P
+use Rattle.paper.specs.Bytes.{Bytes, Bytewise}
+use Rattle.paper.proofs.Lists.{not-both}
 use Rattle.paper.proofs.Proofs.{path-lawful}
 use Rattle.words.proofs.Slices.{bytewise}
-use Rattle.shown.specs.Form.{afterAt}
-use Rattle.shown.proofs.Behind.{after-within, loop-on, loop-stop, loop-end, path-on, path-stop}
+use Rattle.fields.specs.After.{afterOf, afterAt}
+use Rattle.fields.specs.declared.After.the-variants.{At, Nowhere}
+use Rattle.fields.proofs.Behind.{after-within, loop-on, loop-stop, loop-end}
+use Rattle.path.specs.Parsed.{pathOf, pathAt}
+use Rattle.path.specs.declared.Path.{Path}
 use Rattle.shown.proofs.layout.paths_after.Statement.{statement}
 use Rattle.shown.proofs.layout.paths_after.Tie as tie
+
+-- a parsed path: the place behind it
+module _ (s : Bytes) (at : ℕ) (p : Path) (parsed : p ≡ pathAt s at) where
+  path-on : p .good ≡ true → afterAt pathField s at ≡ At (p .next)
+  unfolding pathAt
+  path-on g = rw parsed (by (pathField .read (drop at s)) (rw parsed at g))
+    where
+      by : (x : Read P.Path) → pathOf (length s) at x .good ≡ true → afterOf (length s) x ≡ At (pathOf (length s) at x .next)
+      by bad g = not-both g refl
+      by (got x r) g = refl
+
+  path-stop : p .good ≡ false → afterAt pathField s at ≡ Nowhere
+  unfolding pathAt
+  path-stop g = by (pathField .read (drop at s)) (rw parsed at g)
+    where
+      by : (x : Read P.Path) → pathOf (length s) at x .good ≡ false → afterOf (length s) x ≡ Nowhere
+      by bad g = refl
+      by (got x r) g = not-both refl g
 
 abbrev Inv-loop : tie.InvT-loop
 Inv-loop s at m place₀ counter₀ place counter = (counter ≤ m) × (place ≤ length s) × (afterAt (times m pathField) s at ≡ afterAt (times (m - counter) pathField) s place)

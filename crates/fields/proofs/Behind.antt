@@ -1,6 +1,5 @@
 -- What stands behind a reading stands in the same bytes, further on. Assumes nothing.
 use mathlib.Core.Path.{_≡_, refl, sym, ap, _∙_}
-use mathlib.Core.Bool.{true, false}
 use mathlib.Core.List.{List, _∷_}
 use Prim.Native.Nat.{ℕ, suc, _+_, _-_, _≤_, _<_}
 use native.Mathlib.Omega.{arith}
@@ -8,14 +7,10 @@ use lib.ListN.{length, drop, length-append, length-drop}
 use lib.Seq.{drop-at, drop-drop}
 use Rattle.paper.specs.Bytes.{Bytes, Bytewise}
 use Rattle.paper.specs.Layout.{Layout, Read, got, bad, andThen, times, timesRead}
-use Rattle.paper.specs.Fields.{pathField}
-use Rattle.paper.specs.Path as P
-use Rattle.paper.proofs.Lists.{all-drop, not-both}
+use Rattle.paper.proofs.Lists.{all-drop}
 use Rattle.paper.proofs.Layouts.{Lawful, then-got}
-use Rattle.path.specs.Parsed.{pathOf, pathAt}
-use Rattle.path.specs.declared.Path.{Path}
-use Rattle.shown.specs.Form.{afterOf, afterAt}
-use Rattle.shown.specs.declared.After.the-variants.{At, Nowhere}
+use Rattle.fields.specs.After.{afterOf, afterAt}
+use Rattle.fields.specs.declared.After.the-variants.{At, Nowhere}
 
 -- what was read in s from `at` on: it fits, its bytes stand there, and the rest behind them
 pub record Stood {A : Type 0} (a : Layout A) (s : Bytes) (at : ℕ) (x : A) (r : Bytes) : Type 0 where
@@ -111,21 +106,3 @@ module _ {A : Type 0} {a : Layout A} (h : Lawful a) (s : Bytes) (w : Bytewise s)
 
     pub loop-end : n ≤ i → afterAt (times (n - i) a) s at ≡ At at
     loop-end k = let j : n - i ≡ 0 = omega arith in rw j (times-none at l)
-
--- a parsed path: the place behind it
-module _ (s : Bytes) (at : ℕ) (p : Path) (parsed : p ≡ pathAt s at) where
-  pub path-on : p .good ≡ true → afterAt pathField s at ≡ At (p .next)
-  unfolding pathAt
-  path-on g = rw parsed (by (pathField .read (drop at s)) (rw parsed at g))
-    where
-      by : (x : Read P.Path) → pathOf (length s) at x .good ≡ true → afterOf (length s) x ≡ At (pathOf (length s) at x .next)
-      by bad g = not-both g refl
-      by (got x r) g = refl
-
-  pub path-stop : p .good ≡ false → afterAt pathField s at ≡ Nowhere
-  unfolding pathAt
-  path-stop g = by (pathField .read (drop at s)) (rw parsed at g)
-    where
-      by : (x : Read P.Path) → pathOf (length s) at x .good ≡ false → afterOf (length s) x ≡ Nowhere
-      by bad g = refl
-      by (got x r) g = not-both refl g

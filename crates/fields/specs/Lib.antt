@@ -1,0 +1,2 @@
+-- What the contracts of readings cite.
+pub mod After
