@@ -18,8 +18,9 @@ use Rattle.paper.proofs.Lists.{not-both, and-left, and-right, all-take, all-dro
 use Rattle.paper.proofs.Bytes.{number-lt}
 use Rattle.words.proofs.Pasted.{length-part}
 use Rattle.fields.specs.After.{afterOf, afterAt}
+use Rattle.fields.specs.Head.{headAt}
 use Rattle.fields.specs.declared.After.the-variants.{At, Nowhere}
-use Rattle.audit_form.specs.Places.{recordAt, recordsAt, headAt, countAt, behindAt, auditAt, Formed, Listed, Laid}
+use Rattle.audit_form.specs.Places.{recordAt, recordsAt, countAt, behindAt, auditAt, Formed, Listed, Laid}
 use Rattle.audit_form.proofs.At.{ReadAt, block-at, fixed-at, within-at, seq-at, led-at, view-at, then-cond, over-cond}
 use Rattle.audit_form.proofs.Record.{in-layout-at, formed, record-at, record-short, record-tells}
 
@@ -195,7 +196,7 @@ headTest s at =
     && (leb (at + 36) (length s) && (leb (at + 68) (length s) && leb (at + 100) (length s)))
 
 head-at : (s : Bytes) (at : ℕ) → ReadAt headField s at (headTest s at) (headAt s at) (at + 100)
-unfolding headTest headAt
+unfolding headTest
 head-at s at = view-at _ _
     (seq-at (within-at 4 0 epochMost s at (at + 4) (omega arith) (omega arith))
     (seq-at (block-at wide s (at + 4) (at + 36) (omega arith) (omega arith))
