@@ -19,7 +19,8 @@ use Rattle.paper.specs.declared.AuditAnswer.{AuditAnswer}
 use Rattle.paper.specs.declared.AuditAnswer.the-variants as A
 use Rattle.paper.proofs.Verdicts.{Hold, verdict-cases, verdict-all, verdict-first}
 use Rattle.paper.proofs.Lists.{and-left, and-both}
-use Rattle.audit_form.specs.Places.{recordsAt, headAt, countAt, behindAt, auditAt, Listed}
+use Rattle.fields.specs.Head.{headAt}
+use Rattle.audit_form.specs.Places.{recordsAt, countAt, behindAt, auditAt, Listed}
 use Rattle.audit_root.proofs.Step.{root-few}
 use Rattle.audit.specs.Tests.{checked, headTests, testsAt, digestsAt, oldAnswer, listsAnswer}
 use Rattle.audit.specs.declared.Checked.{Checked}
@@ -74,15 +75,15 @@ module _ (d d′ s : Bytes) where
 
   module _ (e : same (sha256 (headString (headAt s 6))) d ≡ true) (f : same (sha256 (headString (headAt s 106))) d′ ≡ true) where
     pub heads-epoch : (number (take 4 (drop 106 s)) ≡ suc (number (take 4 (drop 6 s))) → ⊥) → checked 2 (headTests d d′ (auditAt s)) ≡ Refused RULE
-    unfolding auditTests auditAt headAt
+    unfolding auditTests auditAt
     heads-epoch n = third-fails Refused (Passed 2) _ _ _ e f (rw (ne-eqb _ _ n))
 
     pub heads-previous : same (take wide (drop 110 s)) d ≡ false → checked 2 (headTests d d′ (auditAt s)) ≡ Refused RULE
-    unfolding auditTests auditAt headAt
+    unfolding auditTests auditAt
     heads-previous g = third-fails Refused (Passed 2) _ _ _ e f (rw g (simp and-false))
 
     pub heads-pass : number (take 4 (drop 106 s)) ≡ suc (number (take 4 (drop 6 s))) → same (take wide (drop 110 s)) d ≡ true → checked 2 (headTests d d′ (auditAt s)) ≡ Passed 2
-    unfolding auditTests auditAt headAt
+    unfolding auditTests auditAt
     heads-pass n g = none-fails Refused (Passed 2) _ _ _ e f (and-both (eq-eqb _ _ n) g)
 
 -- the digests of a list: those of its old root, and those of its new one
@@ -112,13 +113,13 @@ oldChecked s = checked (digestsAt s (behindAt s 206 + 4) (countAt s (behindAt s 
 
 module _ (s : Bytes) (digests : ℕ) where
   pub all-refused : (n : ℕ) → allChecked s ≡ Refused n → listsAnswer (auditAt s) digests ≡ A.Refused n
-  unfolding auditAt headAt
+  unfolding auditAt
   all-refused n e =
       let c = digestsAt s 210 (countAt s 206) in
       refused A.Refused (oldAnswer (auditAt s) (digests + c)) c n (testsAt s ofAll 210 (countAt s 206) 42) e
 
   pub all-passed : (k : ℕ) → allChecked s ≡ Passed k → listsAnswer (auditAt s) digests ≡ oldAnswer (auditAt s) (digests + k)
-  unfolding auditAt headAt
+  unfolding auditAt
   all-passed k e =
       let ts = testsAt s ofAll 210 (countAt s 206) 42 in
       let (q, h) = passed (digestsAt s 210 (countAt s 206)) k ts e in
@@ -134,11 +135,11 @@ module _ (s : Bytes) (digests : ℕ) where
   oldTests = testsAt s ofOld (behindAt s 206 + 4) (countAt s (behindAt s 206)) 74
 
   pub old-refused : (n : ℕ) → oldChecked s ≡ Refused n → oldAnswer (auditAt s) digests ≡ A.Refused n
-  unfolding auditAt headAt
+  unfolding auditAt
   old-refused n e = refused A.Refused (answer oldDigests) oldDigests n oldTests e
 
   pub old-passed : (k : ℕ) → oldChecked s ≡ Passed k → oldAnswer (auditAt s) digests ≡ A.Accepted (number (take 4 (drop 6 s))) (number (take 4 (drop 106 s))) (digests + k)
-  unfolding auditAt headAt
+  unfolding auditAt
   old-passed k e =
       let (q, h) = passed oldDigests k oldTests e in
       verdict-all A.Refused (answer oldDigests) oldTests h ∙ ap answer (sym q)

@@ -7,17 +7,15 @@ use audit_form::in_layout;
 use audit_root::root;
 use audit_rules::list_rules;
 use paper::AuditAnswer;
-use strings::head;
+use strings::head_at;
 use words::digest_at;
 use words::read32;
 use words::same;
 ghost use mathlib.Core.Path.{_≡_};
 ghost use Prim.Native.Nat.{_+_, _≤_};
 ghost use lib.ListN.{length};
-ghost use Rattle.fips.specs.Sha256.{sha256};
-ghost use Rattle.paper.specs.Strings.{headString};
 ghost use Rattle.paper.specs.Audit.{checkAudit};
-ghost use Rattle.audit_form.specs.Places.{headAt, behindAt, auditAt, Listed, Laid};
+ghost use Rattle.audit_form.specs.Places.{behindAt, auditAt, Listed, Laid};
 ghost use Rattle.audit_rules.specs.Tree.{whichOf};
 ghost use Rattle.audit.specs.Tests.{checked, headTests, testsAt, digestsAt, oldAnswer, listsAnswer};
 
@@ -38,27 +36,16 @@ pub enum Checked {
     Refused(u8),
 }
 
-// The digest of the head that is opened at `at`.
-fn head_digest(s: &[u8], at: usize) -> [u8; 32]
-    requires { ⌜ at + 100 ≤ length (now s) ⌝ }
-    ensures { λ r. ⌜ r ≡ sha256 (headString (headAt (now (s .entry)) at)) ⌝ }
-{
-    let previous = digest_at(s, at + 4);
-    let all = digest_at(s, at + 36);
-    let old = digest_at(s, at + 68);
-    head(read32(s, at), &previous, &all, &old)
-}
-
 // The old head, the new head, and what joins them: "The new epoch is the old plus one (nothing follows the largest), its
 // previous head is the old head".
 fn check_heads(old_head: &[u8], new_head: &[u8], proof: &[u8]) -> Checked
     requires { ⌜ 206 ≤ length (now proof) ⌝ }
     ensures { λ r. ⌜ r ≡ checked 2 (headTests (now («old_head» .entry)) (now («new_head» .entry)) (auditAt (now (proof .entry)))) ⌝ }
 {
-    if !same(&head_digest(proof, 6), old_head) {
+    if !same(&head_at(proof, 6), old_head) {
         return Checked::Refused(HEAD);
     }
-    if !same(&head_digest(proof, 106), new_head) {
+    if !same(&head_at(proof, 106), new_head) {
         return Checked::Refused(HEAD);
     }
     if read32(proof, 106) as u64 != read32(proof, 6) as u64 + 1 {

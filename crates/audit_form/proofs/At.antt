@@ -9,8 +9,10 @@ use lib.Dec.{leb}
 use lib.ListN.{length, take, drop, length-drop}
 use lib.Seq.{drop-drop}
 use borrow.Author.Tests.{le-leb, lt-leb}
-use Rattle.paper.specs.Bytes.{Bytes, number, same}
+use Rattle.paper.specs.Bytes.{Bytes, Bytewise, number, same}
 use Rattle.paper.specs.Layout.{Read, got, bad, Layout, andThen, block, fixed, within, seq, led, such, view}
+use Rattle.paper.proofs.Lists.{all-drop}
+use Rattle.fields.proofs.Flat.{Flat}
 
 -- read at place `at` of s: the value x, and the place `next` behind it, if the test t holds
 pub record ReadAt {A : Type 0} (a : Layout A) (s : Bytes) (at : ℕ) (t : Bool) (x : A) (next : ℕ) : Type 0 where
@@ -28,6 +30,11 @@ behind s at n next e = drop-drop n at s ∙ ap (λ i. drop i s) e
 pub block-at : (n : ℕ) (s : Bytes) (at next : ℕ) → 0 < n → at + n ≡ next → ReadAt (block n) s at (leb next (length s)) (take n (drop at s)) next
 unfolding block
 block-at n s at next h e = record { reads = rw (reaches s at n next h e, behind s at n next e) }
+
+-- a layout of a fixed size
+pub flat-at : {A : Type 0} (a : Layout A) {n : ℕ} {ok : Bytes → Bool} {value : Bytes → A} → Flat (a .read) n ok value → (s : Bytes) → Bytewise s → (at next : ℕ) → 0 < n → at + n ≡ next
+    → ReadAt a s at (leb next (length s) && ok (drop at s)) (value (drop at s)) next
+flat-at a {n = n} f s w at next h e = record { reads = f .reads (drop at s) (all-drop _ at s w) ∙ rw (reaches s at n next h e, behind s at n next e) }
 
 pub fixed-at : (x s : Bytes) (at next : ℕ) → at + length x ≡ next → ReadAt (fixed x) s at (same (take (length x) (drop at s)) x) tt next
 unfolding fixed

@@ -1,26 +1,27 @@
 -- What an audit's layout reads at the place of records, of a list, of a head, and in the whole proof. Assumes nothing.
 use mathlib.Core.Path.{_≡_, refl, sym, ap, _∙_}
 use mathlib.Core.Logic.{by-cases}
-use mathlib.Core.Bool.{Bool, true, false, cond, _&&_, and-false}
+use mathlib.Core.Bool.{Bool, true, false, cond, _&&_, and-true, and-false}
 use mathlib.Core.List.{List, [], _∷_, _++_}
 use Prim.Native.Nat.{ℕ, zero, suc, _+_, _-_, _*_, _≤_, _<_}
 use native.Mathlib.Omega.{arith}
 use native.Mathlib.Decide.{decLe}
 use lib.Dec.{leb, eqb, eqb·zero-suc, eqb·suc-suc}
 use lib.ListN.{length, take, drop, length-drop}
+use lib.Seq.{drop-drop}
 use borrow.Author.Tests.{le-leb, lt-leb, leb-true}
-use Rattle.paper.specs.Numbers.{wide, auditMost, epochMost}
+use Rattle.paper.specs.Numbers.{auditMost}
 use Rattle.paper.specs.Bytes.{Bytes, Bytewise, be, number, same}
 use Rattle.paper.specs.Layout.{Read, got, bad, andThen, times, timesRead, whole, parse, inLayout}
 use Rattle.paper.specs.Fields.{headField}
 use Rattle.paper.specs.Audit.{AuditRecord, auditRecordField, listField, Audit, auditField}
-use Rattle.paper.proofs.Lists.{not-both, and-left, and-right, all-take, all-drop}
-use Rattle.paper.proofs.Bytes.{number-lt}
-use Rattle.words.proofs.Pasted.{length-part}
+use Rattle.paper.proofs.Lists.{not-both, and-left, and-right}
 use Rattle.fields.specs.After.{afterOf, afterAt}
+use Rattle.fields.specs.Head.{headAt}
 use Rattle.fields.specs.declared.After.the-variants.{At, Nowhere}
-use Rattle.audit_form.specs.Places.{recordAt, recordsAt, headAt, countAt, behindAt, auditAt, Formed, Listed, Laid}
-use Rattle.audit_form.proofs.At.{ReadAt, block-at, fixed-at, within-at, seq-at, led-at, view-at, then-cond, over-cond}
+use Rattle.fields.proofs.Flat.{head-flat}
+use Rattle.audit_form.specs.Places.{recordAt, recordsAt, countAt, behindAt, auditAt, Formed, Listed, Laid}
+use Rattle.audit_form.proofs.At.{ReadAt, flat-at, fixed-at, within-at, seq-at, led-at, view-at, then-cond, over-cond}
 use Rattle.audit_form.proofs.Record.{in-layout-at, formed, record-at, record-short, record-tells}
 
 -- ---- records
@@ -189,89 +190,63 @@ list-stands s at R r w e =
     let (t, q) = read-got (listTest s at) _ R _ r (sym (list-at s at .reads) ∙ e) in
     record { listed = list-tells s at w t; records = q }
 
-headTest : Bytes → ℕ → Bool
-headTest s at =
-    (leb (at + 4) (length s) && (leb 0 (number (take 4 (drop at s))) && leb (number (take 4 (drop at s))) epochMost))
-    && (leb (at + 36) (length s) && (leb (at + 68) (length s) && leb (at + 100) (length s)))
-
-head-at : (s : Bytes) (at : ℕ) → ReadAt headField s at (headTest s at) (headAt s at) (at + 100)
-unfolding headTest headAt
-head-at s at = view-at _ _
-    (seq-at (within-at 4 0 epochMost s at (at + 4) (omega arith) (omega arith))
-    (seq-at (block-at wide s (at + 4) (at + 36) (omega arith) (omega arith))
-    (seq-at (block-at wide s (at + 36) (at + 68) (omega arith) (omega arith))
-    (block-at wide s (at + 68) (at + 100) (omega arith) (omega arith)))))
+head-at : (s : Bytes) → Bytewise s → (at : ℕ) → ReadAt headField s at (leb (at + 100) (length s)) (headAt s at) (at + 100)
+head-at s w at = rw (and-true, drop-drop 4 at s, drop-drop 36 at s, drop-drop 68 at s) at (flat-at headField head-flat s w at (at + 100) (omega arith) refl)
 
 opensTest : Bytes → Bool
 opensTest s = same (take 6 s) (0x56 ∷ 0x4B ∷ 0x44 ∷ (be 2 1 ++ (3 ∷ [])))
 
-auditTest : Bytes → Bool
-auditTest s = opensTest s && (headTest s 6 && (headTest s 106 && (listTest s 206 && listTest s (behindAt s 206))))
-
-audit-at : (s : Bytes) → ReadAt auditField s 0 (auditTest s) (auditAt s) (behindAt s (behindAt s 206))
-unfolding auditTest opensTest auditAt be
-audit-at s = view-at _ _
-    (seq-at (fixed-at (0x56 ∷ 0x4B ∷ 0x44 ∷ (be 2 1 ++ (3 ∷ []))) s 0 6 (omega arith))
-    (seq-at (head-at s 6)
-    (seq-at (head-at s 106)
-    (seq-at (list-at s 206)
-    (list-at s (behindAt s 206))))))
-
-audit-whole : (s : Bytes) → inLayout (parse auditField s) ≡ (auditTest s && ended (drop (behindAt s (behindAt s 206)) s))
-audit-whole s = ap (λ m. inLayout (whole m)) (audit-at s .reads) ∙ whole-cond (auditTest s) (auditAt s) (drop (behindAt s (behindAt s 206)) s)
-
-head-test : (s : Bytes) (at : ℕ) → Bytewise s → at + 100 ≤ length s → headTest s at ≡ true
-unfolding headTest
-head-test s at w h =
-    let c : length (take 4 (drop at s)) ≡ 4 = length-part s at 4 (omega arith) in
-    let e = number-lt (take 4 (drop at s)) (all-take _ 4 (drop at s) (all-drop _ at s w)) in
-    rw (
-      le-leb (at + 4) (length s) (omega arith),
-      le-leb (at + 36) (length s) (omega arith),
-      le-leb (at + 68) (length s) (omega arith),
-      le-leb (at + 100) (length s) h,
-      le-leb 0 (number (take 4 (drop at s))) (omega arith),
-      le-leb (number (take 4 (drop at s))) epochMost (omega (arith, rw c at e)),
-    )
-
--- ---- the tests that the code makes of the whole
-
 module _ (s : Bytes) where
-  pub audit-short : length s < 206 → inLayout (parse auditField s) ≡ false
-  unfolding auditTest headTest
-  audit-short h = audit-whole s ∙ rw (lt-leb 206 (length s) h) (simp and-false)
+  auditTest : Bool
+  auditTest = opensTest s && (leb 106 (length s) && (leb 206 (length s) && (listTest s 206 && listTest s (behindAt s 206))))
 
-  pub audit-closed : same (take 6 s) (0x56 ∷ 0x4B ∷ 0x44 ∷ 0 ∷ 1 ∷ 3 ∷ []) ≡ false → inLayout (parse auditField s) ≡ false
-  unfolding auditTest opensTest be
-  audit-closed e = audit-whole s ∙ rw e
+  module _ (w : Bytewise s) where
+    audit-at : ReadAt auditField s 0 auditTest (auditAt s) (behindAt s (behindAt s 206))
+    unfolding auditTest opensTest auditAt be
+    audit-at = view-at _ _
+        (seq-at (fixed-at (0x56 ∷ 0x4B ∷ 0x44 ∷ (be 2 1 ++ (3 ∷ []))) s 0 6 (omega arith))
+        (seq-at (head-at s w 6)
+        (seq-at (head-at s w 106)
+        (seq-at (list-at s 206)
+        (list-at s (behindAt s 206))))))
 
-  pub audit-none : afterAt listField s 206 ≡ Nowhere → inLayout (parse auditField s) ≡ false
-  unfolding auditTest
-  audit-none q = audit-whole s ∙ rw (no-list s 206 q) (simp and-false)
+    audit-whole : inLayout (parse auditField s) ≡ (auditTest && ended (drop (behindAt s (behindAt s 206)) s))
+    audit-whole = ap (λ m. inLayout (whole m)) (audit-at .reads) ∙ whole-cond auditTest (auditAt s) (drop (behindAt s (behindAt s 206)) s)
 
-  pub audit-ends : Bytewise s → 206 ≤ length s → same (take 6 s) (0x56 ∷ 0x4B ∷ 0x44 ∷ 0 ∷ 1 ∷ 3 ∷ []) ≡ true
-      → (e : ℕ) → afterAt listField s 206 ≡ At e → inLayout (parse auditField s) ≡ inLayout (parse listField (drop e s))
-  unfolding auditTest opensTest be
-  audit-ends w h o e q =
-      let (t, b) = one-list s 206 e q in
-      audit-whole s ∙ rw (o, head-test s 6 w (omega arith), head-test s 106 w (omega arith), t, b) (sym (list-whole s e))
+    -- the tests that the code makes of the whole
+    pub audit-short : length s < 206 → inLayout (parse auditField s) ≡ false
+    unfolding auditTest
+    audit-short h = audit-whole ∙ rw (lt-leb 206 (length s) h) (simp and-false)
 
--- what an audit in layout says of its bytes
-pub audit-reads : (s : Bytes) → inLayout (parse auditField s) ≡ true → parse auditField s ≡ got (auditAt s) []
-audit-reads s e = ap whole (audit-at s .reads) ∙ whole-got (auditTest s) (auditAt s) _ (sym (ap (λ m. inLayout (whole m)) (audit-at s .reads)) ∙ e)
+    pub audit-closed : same (take 6 s) (0x56 ∷ 0x4B ∷ 0x44 ∷ 0 ∷ 1 ∷ 3 ∷ []) ≡ false → inLayout (parse auditField s) ≡ false
+    unfolding auditTest opensTest be
+    audit-closed e = audit-whole ∙ rw e
 
-pub audit-laid : (s : Bytes) → Bytewise s → inLayout (parse auditField s) ≡ true → Laid s
-unfolding auditTest
-audit-laid s w e =
-    let t = and-left (auditTest s) _ (sym (audit-whole s) ∙ e) in
-    let heads = and-right (opensTest s) _ t in
-    let second = and-right (headTest s 6) _ heads in
-    let lists = and-right (headTest s 106) _ second in
-    record {
-      long = by-cases (decLe 206 (length s)) (λ h. h) (λ n. not-both e (audit-short s (omega arith)));
-      all = list-tells s 206 w (and-left _ _ lists);
-      old = list-tells s (behindAt s 206) w (and-right (listTest s 206) _ lists);
-    }
+    pub audit-none : afterAt listField s 206 ≡ Nowhere → inLayout (parse auditField s) ≡ false
+    unfolding auditTest
+    audit-none q = audit-whole ∙ rw (no-list s 206 q) (simp and-false)
+
+    pub audit-ends : 206 ≤ length s → same (take 6 s) (0x56 ∷ 0x4B ∷ 0x44 ∷ 0 ∷ 1 ∷ 3 ∷ []) ≡ true
+        → (e : ℕ) → afterAt listField s 206 ≡ At e → inLayout (parse auditField s) ≡ inLayout (parse listField (drop e s))
+    unfolding auditTest opensTest be
+    audit-ends h o e q =
+        let (t, b) = one-list s 206 e q in
+        audit-whole ∙ rw (o, le-leb 106 (length s) (omega arith), le-leb 206 (length s) h, t, b) (sym (list-whole s e))
+
+    -- what an audit in layout says of its bytes
+    pub audit-reads : inLayout (parse auditField s) ≡ true → parse auditField s ≡ got (auditAt s) []
+    audit-reads e = ap whole (audit-at .reads) ∙ whole-got auditTest (auditAt s) _ (sym (ap (λ m. inLayout (whole m)) (audit-at .reads)) ∙ e)
+
+    pub audit-laid : inLayout (parse auditField s) ≡ true → Laid s
+    unfolding auditTest
+    audit-laid e =
+        let heads = and-right (leb 106 (length s)) _ (and-right (opensTest s) _ (and-left auditTest _ (sym audit-whole ∙ e))) in
+        let lists = and-right (leb 206 (length s)) _ heads in
+        record {
+          long = leb-true 206 (length s) (and-left _ _ heads);
+          all = list-tells s 206 w (and-left _ _ lists);
+          old = list-tells s (behindAt s 206) w (and-right (listTest s 206) _ lists);
+        }
 
 pub audit-bad : (s : Bytes) → inLayout (parse auditField s) ≡ false → parse auditField s ≡ bad
 audit-bad s e = by (parse auditField s) e

@@ -1,6 +1,5 @@
 -- What the layout reads at a place, for the crates above too.
 pub mod At
-pub mod Fields
 pub mod Record
 pub mod Form
 pub mod Places

@@ -2,13 +2,13 @@
 use mathlib.Core.Path.{_≡_, refl, sym, ap, ap₂, _∙_}
 use mathlib.Core.Logic.{_⊎_, inl, inr, ⊎-elim, by-cases}
 use mathlib.Core.Bool.{Bool, true, false, cond, not, _&&_, and-true, and-false}
-use Prim.Native.Nat.{ℕ, zero, suc, _+_, _≤_, _<_}
+use Prim.Native.Nat.{ℕ, zero, suc, _+_, _^_, _≤_, _<_}
 use native.Mathlib.Omega.{arith}
 use native.Mathlib.Decide.{decLe}
 use lib.Dec.{leb, eqb}
 use lib.ListN.{length, take, drop, getD, length-take, length-drop}
 use lib.Seq.{take-all}
-use borrow.Author.Tests.{le-leb, lt-leb, leb-true}
+use borrow.Author.Tests.{le-leb, lt-leb, leb-true, eq-eqb, ne-eqb}
 use Rattle.paper.specs.Lists.{every}
 use Rattle.paper.specs.Numbers.{wide, epochMost}
 use Rattle.paper.specs.Bytes.{Bytes, Bytewise, be, number, same, zeros}
@@ -16,14 +16,14 @@ use Rattle.paper.specs.Bits.{bitsOf, pack}
 use Rattle.paper.specs.Layout.{got, bad, Layout, never, inLayout}
 use Rattle.paper.specs.Fields.{prefixBody, prefixField}
 use Rattle.paper.specs.Audit.{unchanged, fresh, recordKind, recordOf, leafFields, unchangedFields, openedFields, freshFields, auditRecordField}
-use Rattle.paper.proofs.Lists.{not-both, and-left, and-right, all-take, all-drop}
-use Rattle.paper.proofs.Bytes.{same-eq, number-lt, bitsOf-length, pack-bitsOf}
+use Rattle.paper.proofs.Lists.{true-or-false, not-both, and-left, and-right, all-take, all-drop}
+use Rattle.paper.proofs.Bytes.{same-eq, eq-same, number-be, be-number, number-lt, bitsOf-length, pack-bitsOf}
 use Rattle.words.proofs.Number.{number-one}
 use Rattle.words.proofs.Compare.{not-same, zeros-same}
 use Rattle.words.proofs.Pasted.{length-part}
+use Rattle.fields.proofs.Prefix.{zero-bits}
 use Rattle.audit_form.specs.Places.{labelAt, keyAt, recordBy, recordAt, Formed}
 use Rattle.audit_form.proofs.At.{ReadAt, block-at, fixed-at, within-at, seq-at, led-at, view-at, such-at}
-use Rattle.audit_form.proofs.Fields.{number-same, prefix-same}
 
 -- the value matters where the test holds alone, and a value was read where it does
 other-value : {A : Type 0} {a : Layout A} {s : Bytes} {at : ℕ} {t : Bool} {x : A} (y : A) {next : ℕ} → ReadAt a s at t x next → (t ≡ true → x ≡ y) → ReadAt a s at t y next
@@ -39,6 +39,13 @@ in-layout-at {s = s} {t = t} {x = x} {next = next} h = ap inLayout (h .reads) �
     by : (t : Bool) → inLayout (cond t (got x (drop next s)) bad) ≡ t
     by true = refl
     by false = refl
+
+-- bytes that hold a number are the bytes of that number
+number-same : (x : Bytes) (n : ℕ) → Bytewise x → n < 256 ^ length x → eqb (number x) n ≡ same x (be (length x) n)
+number-same x n w h = ⊎-elim
+    (λ e. eq-eqb (number x) n (ap number (same-eq x _ e) ∙ number-be (length x) n h) ∙ sym e)
+    (λ e. ne-eqb (number x) n (λ q. not-both (eq-same (sym (be-number x w) ∙ ap (be (length x)) q)) e) ∙ sym e)
+    (true-or-false (same x (be (length x) n)))
 
 -- ---- a record at a place
 
@@ -196,18 +203,18 @@ module _ (s : Bytes) (at : ℕ) where
   unfolding labelAt
   label-bytes w = all-take _ wide (drop (at + 3) s) (all-drop _ (at + 3) s w)
 
-  zero-bits : Bytewise s → at + 99 ≤ length s → sizeAt ≤ 256 → every not (drop sizeAt (bitsOf (labelAt s at))) ≡ same (pack wide (keyAt s at)) (labelAt s at)
+  zeros-past : Bytewise s → at + 99 ≤ length s → sizeAt ≤ 256 → every not (drop sizeAt (bitsOf (labelAt s at))) ≡ same (pack wide (keyAt s at)) (labelAt s at)
   unfolding keyAt sizeAt
-  zero-bits w h l =
+  zeros-past w h l =
       let n = label-wide h in
-      rw n at (prefix-same (labelAt s at) sizeAt (label-bytes w) (omega arith))
+      rw n at (zero-bits (labelAt s at) sizeAt (label-bytes w) (omega arith))
 
   pub prefix-in : Bytewise s → at + 99 ≤ length s → 1 ≤ number (take 2 (drop (at + 1) s)) → number (take 2 (drop (at + 1) s)) ≤ 255
       → inLayout (prefixField .read (drop (at + 1) s)) ≡ same (pack wide (keyAt s at)) (labelAt s at)
   unfolding prefixTest sizeAt
   prefix-in w h l m =
       in-layout-at prefix-at
-      ∙ rw (le-leb (at + 3) (length s) (omega arith), le-leb 1 sizeAt l, le-leb sizeAt 255 m, le-leb (at + 35) (length s) (omega arith)) (zero-bits w h (omega arith))
+      ∙ rw (le-leb (at + 3) (length s) (omega arith), le-leb 1 sizeAt l, le-leb sizeAt 255 m, le-leb (at + 35) (length s) (omega arith)) (zeros-past w h (omega arith))
 
   -- ---- what a record in layout says of its bytes
 
@@ -229,7 +236,7 @@ module _ (s : Bytes) (at : ℕ) where
       let least = leb-true 1 sizeAt (and-left _ _ sizes) in
       let most = leb-true sizeAt 255 (and-right (leb 1 sizeAt) _ sizes) in
       let z = and-right (leb (at + 35) (length s)) _ (and-right (leb (at + 3) (length s) && (leb 1 sizeAt && leb sizeAt 255)) _ p) in
-      (least, omega arith, same-eq _ _ (sym (zero-bits w h (omega arith)) ∙ z))
+      (least, omega arith, same-eq _ _ (sym (zeros-past w h (omega arith)) ∙ z))
   by-tells w h (suc (suc zero)) e = leaf-tells w h e
   by-tells w h (suc (suc (suc k))) e = not-both e refl
 

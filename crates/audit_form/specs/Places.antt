@@ -6,8 +6,8 @@ use lib.ListN.{length, take, drop, getD}
 use Rattle.paper.specs.Numbers.{wide, auditMost}
 use Rattle.paper.specs.Bytes.{Bytes, number}
 use Rattle.paper.specs.Bits.{Bits, bitsOf, pack}
-use Rattle.paper.specs.Strings.{Head}
 use Rattle.paper.specs.Audit.{AuditRecord, unchanged, opened, fresh, Audit}
+use Rattle.fields.specs.Head.{headAt}
 
 -- "records of 99 bytes: kind, length 2, label or prefix 32, then ..": the 32 bytes, and the first bits of them
 unfoldable pub labelAt : Bytes → ℕ → Bytes
@@ -29,15 +29,6 @@ recordAt s at = recordBy (getD s at 0) s at
 unfoldable pub recordsAt : Bytes → ℕ → ℕ → List AuditRecord
 recordsAt s at zero = []
 recordsAt s at (suc n) = recordAt s at ∷ recordsAt s (at + 99) n
-
--- "the 100 bytes of a head after its 0x03"
-unfoldable pub headAt : Bytes → ℕ → Head
-headAt s at = record {
-  epoch = number (take 4 (drop at s));
-  previous = take wide (drop (at + 4) s);
-  all = take wide (drop (at + 36) s);
-  old = take wide (drop (at + 68) s);
-}
 
 -- "a count (4) and records": the count of the list at a place, and where the list ends
 unfoldable pub countAt : Bytes → ℕ → ℕ

@@ -11,9 +11,11 @@ use lib.Seq.{drop-drop, length-take-le}
 use borrow.Author.Tests.{le-leb, lt-leb, leb-true}
 use Rattle.paper.specs.Bytes.{Bytes, Bytewise, number, same}
 use Rattle.paper.specs.Layout.{Read, got, bad, Layout, andThen, block, fixed, within, seq, led, such, view, inLayout}
-use Rattle.paper.specs.Fields.{epochField}
+use Rattle.paper.specs.Numbers.{wide}
+use Rattle.paper.specs.Fields.{digestField, epochField, headField}
 use Rattle.paper.proofs.Lists.{all-take, all-drop}
 use Rattle.paper.proofs.Bytes.{same-eq, number-lt}
+use Rattle.fields.specs.Head.{headAt}
 
 -- ---- tests one behind the other
 
@@ -180,3 +182,8 @@ epoch-flat = record {
       rw (leb·zero x, le-leb x (2 ^ 32 - 1) (omega arith)))
       (λ l. rw (lt-leb 4 (length s) (omega arith)));
 }
+
+-- a head's 100 bytes may be any
+pub head-flat : Flat (headField .read) 100 (λ s. true) (λ s. headAt s 0)
+head-flat = flat-as refl (λ s. refl) (λ s. rw (drop-drop 32 4 s, drop-drop 32 36 s))
+    (view-flat _ _ _ (seq-flat epochField _ epoch-flat (λ _. seq-flat digestField _ (block-flat wide) (λ _. seq-flat digestField _ (block-flat wide) (λ _. block-flat wide)))))

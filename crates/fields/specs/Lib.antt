@@ -1,2 +1,3 @@
 -- What the contracts of readings cite.
 pub mod After
+pub mod Head

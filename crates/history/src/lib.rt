@@ -46,8 +46,8 @@ fn walk_paths(s: &[u8], name: &[u8], first: usize, n: u16, epoch: u32) -> Walk
         return absent_markers(s, name, 0, most, start);
     }
     let marks = bits::marker_of(n as u32) as u16 + 1;
-    let shown = versions(s, name, first, n, epoch, start);
-    let old = replaced(s, name, first, n, shown);
+    let all = versions(s, name, first, n, epoch, start);
+    let old = replaced(s, name, first, n, all);
     let current = take_path(s, name, old, missing(Place::InOld(n)));
     let last = absent_versions(s, name, n + 1, 1u16 << marks, current);
     let marked = markers(s, name, first, marks, last);

@@ -24,8 +24,8 @@ fn walk_registered(proof: &[u8], name: &[u8], start: usize, version: u16, epoch:
         digests: 2,
         epoch: 0,
     };
-    let shown = present(Place::InAll(version), own, version as u64, epoch as u64);
-    let first = take_path(proof, name, begun, shown);
+    let current = present(Place::InAll(version), own, version as u64, epoch as u64);
+    let first = take_path(proof, name, begun, current);
     let second = take_path(proof, name, first, missing(Place::InOld(version)));
     let least = 1u64 << marker;
     let marked = present(

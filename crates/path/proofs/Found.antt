@@ -23,8 +23,8 @@ use Rattle.path.specs.Taken.{shownBy, takenOf, taken}
 use Rattle.path.specs.declared.Path.{Path}
 use Rattle.path.specs.declared.Taken.{Taken}
 use Rattle.fields.proofs.Flat.{flat-got, within-flat}
+use Rattle.fields.proofs.Prefix.{cut-same}
 use Rattle.path.proofs.Fields.{this-flat, other-flat, off-flat, none-flat, steps-flat}
-use Rattle.path.proofs.Prefix.{cut-same}
 use Rattle.path.proofs.Steps.{steps-length}
 use Rattle.path.proofs.Reading.{body-reads, counted}
 
@@ -49,7 +49,8 @@ end-found m (suc (suc zero)) s fields e r w h =
     let range = and-left (leb 1 (prefixLength t) && leb (prefixLength t) 255) _ g in
     let zero = and-right (leb 1 (prefixLength t) && leb (prefixLength t) 255) _ g in
     let most = leb-true (prefixLength t) 255 (and-right (leb 1 (prefixLength t)) _ range) in
-    let cut = cut-same (prefixBytes t) (prefixLength t) (rw (drop-drop 2 fields s) (length-part s (fields + 2) 32 (omega arith))) (all-take _ 32 (drop 2 t) (all-drop _ 2 t (all-drop _ fields s w))) zero in
+    let size : length (prefixBytes t) ≡ 32 = rw (drop-drop 2 fields s) (length-part s (fields + 2) 32 (omega arith)) in
+    let cut = rw size at (cut-same (prefixBytes t) (prefixLength t) (all-take _ 32 (drop 2 t) (all-drop _ 2 t (all-drop _ fields s w))) zero) in
     subst (EndFound s fields) v ((room, most, rw (drop-drop 2 fields s) at cut), rw (drop-drop 2 fields s, drop-drop 34 fields s, drop-drop 66 fields s))
 end-found m (suc (suc (suc zero))) s fields e r w h =
     let (_, _, v, _) = flat-got (none-flat m) (drop fields s) (all-drop _ fields s w) e r h in

@@ -8,13 +8,13 @@ use lib.Dec.{leb, leb·zero}
 use lib.ListN.{length, take, drop}
 use lib.Seq.{drop-drop}
 use borrow.Author.Tests.{le-leb, lt-leb, leb-true}
-use Rattle.paper.specs.Numbers.{wide, versionMost}
+use Rattle.paper.specs.Numbers.{versionMost}
 use Rattle.paper.specs.Bytes.{Bytes, Bytewise, be, number, same}
 use Rattle.paper.specs.Strings.{Head}
 use Rattle.paper.specs.Layout.{Read, got, bad}
-use Rattle.paper.specs.Fields.{digestField, epochField, headField, opens}
+use Rattle.paper.specs.Fields.{headField, opens}
 use Rattle.paper.proofs.Lists.{and-right}
-use Rattle.fields.proofs.Flat.{Flat, flat-as, flat-yes, flat-short, flat-no, flat-got, block-flat, fixed-flat, within-flat, epoch-flat, seq-flat, view-flat}
+use Rattle.fields.proofs.Flat.{Flat, flat-as, flat-yes, flat-short, flat-no, flat-got, fixed-flat, within-flat, head-flat, seq-flat, view-flat}
 use Rattle.shown.specs.Form.{frontField, frontOf, frontAt, headIn}
 use Rattle.shown.specs.declared.Front.the-variants as F
 
@@ -24,10 +24,6 @@ header kind = 0x56 ∷ 0x4B ∷ 0x44 ∷ 0 ∷ 1 ∷ kind ∷ []
 
 abbrev pub numberIn : Bytes → ℕ
 numberIn s = number (take 2 (drop 106 s))
-
-head-flat : Flat (headField .read) 100 (λ s. true) (λ s. record { epoch = number (take 4 s); previous = take 32 (drop 4 s); all = take 32 (drop 36 s); old = take 32 (drop 68 s) })
-head-flat = flat-as refl (λ s. refl) (λ s. rw (drop-drop 32 4 s, drop-drop 32 36 s))
-    (view-flat _ _ _ (seq-flat epochField _ epoch-flat (λ _. seq-flat digestField _ (block-flat wide) (λ _. seq-flat digestField _ (block-flat wide) (λ _. block-flat wide)))))
 
 front-flat : (kind : ℕ) → Flat (frontField kind .read) 108 (λ s. same (take 6 s) (header kind) && leb (numberIn s) versionMost) (λ s. (headIn s, numberIn s))
 unfolding be

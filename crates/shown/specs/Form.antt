@@ -4,12 +4,13 @@ use Prim.Native.Nat.{ℕ, _+_, _≤_}
 use lib.ListN.{length, take, drop, getD}
 use Rattle.fips.specs.Sha256.{sha256}
 use Rattle.paper.specs.Numbers.{versionMost, keyMost}
-use Rattle.paper.specs.Bytes.{Bytes, number}
+use Rattle.paper.specs.Bytes.{Bytes}
 use Rattle.paper.specs.Strings.{Head, commitmentString}
 use Rattle.paper.specs.Layout.{Layout, Read, got, bad, within, seq, times, timesBytes, view, parse}
 use Rattle.paper.specs.Fields.{opens, headField, pathField}
 use Rattle.paper.specs.Path.{Path}
 use Rattle.paper.specs.Shows.{Item, itemField}
+use Rattle.fields.specs.Head.{headAt}
 use Rattle.fields.specs.declared.After.{After}
 use Rattle.fields.specs.declared.After.the-variants.{At, Nowhere}
 use Rattle.shown.specs.declared.Front.{Front}
@@ -28,12 +29,7 @@ frontAt kind s = frontOf (frontField kind .read s)
 
 -- the head in the front
 abbrev pub headIn : Bytes → Head
-headIn s = record {
-  epoch = number (take 4 (drop 6 s));
-  previous = take 32 (drop 10 s);
-  all = take 32 (drop 42 s);
-  old = take 32 (drop 74 s);
-}
+headIn s = headAt s 6
 
 -- k keys and m paths behind the front, and nothing behind them: the place of the first path
 abbrev pub bodyField : ℕ → ℕ → Layout (List Item × List Path)

@@ -1,7 +1,7 @@
 // The head in a proof's front: "the 100 bytes of a head after its 0x03", behind the six bytes of the header.
 use plan::Place;
+use strings::head_at;
 use words::digest_at;
-use words::read32;
 use words::same;
 ghost use mathlib.Core.Path.{_≡_};
 ghost use Prim.Native.Nat.{_≤_};
@@ -18,11 +18,7 @@ pub fn head_hashes(s: &[u8], head: &[u8]) -> bool
     requires { ⌜ 106 ≤ length (now s) ⌝ }
     ensures { λ r. ⌜ r ≡ B.same (sha256 (headString (headIn (now (s .entry))))) (now (head .entry)) ⌝ }
 {
-    let previous = digest_at(s, 10);
-    let all = digest_at(s, 42);
-    let old = digest_at(s, 74);
-    let digest = strings::head(read32(s, 6), &previous, &all, &old);
-    same(&digest, head)
+    same(&head_at(s, 6), head)
 }
 
 // The root of the tree that a place is in.

@@ -3,14 +3,17 @@
 // other, from place 1 on. A label's and a commitment's array has room for the longest name or key,
 // and its front is hashed.
 use sha256::sha256;
+use words::digest_at;
 use words::put;
+use words::read32;
 use words::write16;
 use words::write32;
 ghost use mathlib.Core.Path.{_≡_};
-ghost use Prim.Native.Nat.{_≤_};
+ghost use Prim.Native.Nat.{_+_, _≤_};
 ghost use lib.ListN.{length};
 ghost use Rattle.fips.specs.Sha256 as F;
 ghost use Rattle.paper.specs.Strings as S;
+ghost use Rattle.fields.specs.Head.{headAt};
 ghost use Rattle.strings.specs.Join.{joined};
 
 // "Leaf, 69 bytes: 0x00, label 32, commitment 32, epoch 4."
@@ -71,6 +74,17 @@ pub fn head(epoch: u32, previous: &[u8; 32], all: &[u8; 32], old: &[u8; 32]) -> 
     put(&mut s, 37, all);
     put(&mut s, 69, old);
     sha256(&s)
+}
+
+// A head that is opened: "the 100 bytes of a head after its 0x03" are those from `at` on.
+pub fn head_at(s: &[u8], at: usize) -> [u8; 32]
+    requires { ⌜ at + 100 ≤ length (now s) ⌝ }
+    ensures { λ r. ⌜ r ≡ F.sha256 (S.headString (headAt (now (s .entry)) at)) ⌝ }
+{
+    let previous = digest_at(s, at + 4);
+    let all = digest_at(s, at + 36);
+    let old = digest_at(s, at + 68);
+    head(read32(s, at), &previous, &all, &old)
 }
 
 // "Label: 0x04, kind 1, number 2, name. Kind 1 is a version, kind 2 a marker." A name has at most 64

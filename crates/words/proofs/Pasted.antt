@@ -57,11 +57,7 @@ pasted-pasted o a x y h =
     ∙ pasted-at (take a o ++ x) (drop (a + length x) o) y (a + length x) e
     ∙ rw (drop-drop (length y) (a + length x) o, k) (simp append-assoc)
 
--- a buffer keeps its length, and holds what was laid over it
+-- a buffer holds what was laid over it
 pub pasted-reach : (o : Bytes) (a : ℕ) (x : Bytes) → a ≤ length o → a + length x ≤ length (pasted o a x)
 unfolding pasted
 pasted-reach o a x h = simp (length-append, length-take) (omega arith)
-
-pub length-pasted : (o : Bytes) (a : ℕ) (x : Bytes) → a + length x ≤ length o → length (pasted o a x) ≡ length o
-unfolding pasted
-length-pasted o a x h = simp (length-append, length-take, length-drop) (omega arith)

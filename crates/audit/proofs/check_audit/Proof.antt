@@ -3,25 +3,34 @@ use borrow.Author.Needs.{needs}
 use native.Mathlib.Omega.{arith}
 use mathlib.Core.Path.{_≡_, sym, ap, _∙_}
 use mathlib.Core.Bool.{true}
+use mathlib.Core.List.{[]}
 use borrow.Author.Tests.{not-true, not-false}
-use Rattle.paper.specs.Layout.{parse, inLayout}
+use Rattle.paper.specs.Bytes.{Bytes, Bytewise}
+use Rattle.paper.specs.Layout.{got, parse, inLayout}
 use Rattle.paper.specs.Audit.{auditField, auditRead}
-use Rattle.audit_form.specs.Places.{Laid}
+use Rattle.audit_form.specs.Places.{auditAt, Laid}
 use Rattle.words.proofs.Slices.{bytewise}
 use Rattle.audit_form.proofs.Form.{audit-bad, audit-reads, audit-laid}
 use Rattle.audit.proofs.Parts.{input-old, input-new, input-fits, heads-refused, heads-passed}
 use Rattle.audit.proofs.check_audit.Statement.{statement}
 use Rattle.audit.proofs.check_audit.Tie as tie
 
--- the proof is in layout, and laid out so
-read : (c : tie.Else3) → inLayout (parse auditField (c .before .before .before .before .before .before .before .args .proof .now)) ≡ true
-read c = sym (c .before .in-layout .ensures) ∙ not-false _ (c .if3 .left)
+-- the proof
+abbrev proofIn : tie.Else3 → Bytes
+proofIn c = c .before .before .before .before .before .before .before .args .proof .now
 
-laid : (c : tie.Else3) → Laid (c .before .before .before .before .before .before .before .args .proof .now)
-laid c =
-    let known = c .before .before .before .before in
-    let s = known .before .before .before .args .proof .now in
-    audit-laid s (bytewise s (known .shared-slice-known3 .given)) (read c)
+bytes : (c : tie.Else3) → Bytewise (proofIn c)
+bytes c = bytewise (proofIn c) (c .before .before .before .before .shared-slice-known3 .given)
+
+-- is in layout, reads as what stands at its places, and is laid out so
+formed : (c : tie.Else3) → inLayout (parse auditField (proofIn c)) ≡ true
+formed c = sym (c .before .in-layout .ensures) ∙ not-false _ (c .if3 .left)
+
+reads : (c : tie.Else3) → parse auditField (proofIn c) ≡ got (auditAt (proofIn c)) []
+reads c = audit-reads (proofIn c) (bytes c) (formed c)
+
+laid : (c : tie.Else3) → Laid (proofIn c)
+laid c = audit-laid (proofIn c) (bytes c) (formed c)
 
 returns : tie.Need-returns
 returns c =
@@ -56,7 +65,7 @@ check-lists-requires : tie.Need-check-lists-requires
 check-lists-requires c κs =
     let called = c .before .before .before in
     let a = called .before .before .before .before .before .before .before .before .args in
-    let two = heads-passed (a .old-head .now) (a .new-head .now) (a .proof .now) (audit-reads (a .proof .now) (read (called .before))) _ (sym (called .check-heads .ensures) ∙ c .before .digests .given .1) .0 in
+    let two = heads-passed (a .old-head .now) (a .new-head .now) (a .proof .now) (reads (called .before)) _ (sym (called .check-heads .ensures) ∙ c .before .digests .given .1) .0 in
     (laid (called .before), omega (arith, two))
 
 returns-4 : tie.Need-returns-4
@@ -65,7 +74,7 @@ returns-4 c =
     let fits = called .before .before .before in
     let a = fits .before .before .before .before .before .args in
     sym (input-fits (a .old-head .now) (a .new-head .now) (a .proof .now) (fits .before .if1 .left) (fits .if2 .left)
-    ∙ heads-refused (a .old-head .now) (a .new-head .now) (a .proof .now) (audit-reads (a .proof .now) (read (called .before))) _ (sym (called .check-heads .ensures) ∙ c .before .number .given .1))
+    ∙ heads-refused (a .old-head .now) (a .new-head .now) (a .proof .now) (reads (called .before)) _ (sym (called .check-heads .ensures) ∙ c .before .number .given .1))
 
 returns-5 : tie.Need-returns-5
 returns-5 c =
@@ -74,7 +83,7 @@ returns-5 c =
     let a = fits .before .before .before .before .before .args in
     c .check-lists .ensures
     ∙ sym (input-fits (a .old-head .now) (a .new-head .now) (a .proof .now) (fits .before .if1 .left) (fits .if2 .left)
-    ∙ heads-passed (a .old-head .now) (a .new-head .now) (a .proof .now) (audit-reads (a .proof .now) (read (called .before))) _ (sym (called .check-heads .ensures) ∙ c .before .before .digests .given .1) .1)
+    ∙ heads-passed (a .old-head .now) (a .new-head .now) (a .proof .now) (reads (called .before)) _ (sym (called .check-heads .ensures) ∙ c .before .before .digests .given .1) .1)
 
 pub check-audit-spec : {M : Type 1} → statement M
 check-audit-spec =

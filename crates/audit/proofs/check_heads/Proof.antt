@@ -7,7 +7,7 @@ use borrow.Author.Tests.{not-true, not-false}
 use Rattle.fips.specs.Sha256.{sha256}
 use Rattle.paper.specs.Bytes.{same}
 use Rattle.paper.specs.Strings.{headString}
-use Rattle.audit_form.specs.Places.{headAt}
+use Rattle.fields.specs.Head.{headAt}
 use Rattle.audit.proofs.Parts.{heads-old, heads-new, heads-epoch, heads-previous, heads-pass}
 use Rattle.audit.proofs.check_heads.Statement.{statement}
 use Rattle.audit.proofs.check_heads.Tie as tie
@@ -21,13 +21,13 @@ from-new c = c .before .before .before .before .before .before .before .before .
 
 -- what the comparisons of the heads say
 old-head : (c : tie.After-same) {b : Bool} → c .same .result ≡ b → same (sha256 (headString (headAt (from-old c .args .proof .now) 6))) (from-old c .args .old-head .now) ≡ b
-old-head c e = ap (λ x. same x (from-old c .args .old-head .now)) (sym (c .before .before .head-digest .ensures)) ∙ sym (c .same .ensures) ∙ e
+old-head c e = ap (λ x. same x (from-old c .args .old-head .now)) (sym (c .before .before .head-at .ensures)) ∙ sym (c .same .ensures) ∙ e
 
 new-head : (c : tie.After-same2) {b : Bool} → c .same2 .result ≡ b → same (sha256 (headString (headAt (from-new c .args .proof .now) 106))) (from-new c .args .new-head .now) ≡ b
-new-head c e = ap (λ x. same x (from-new c .args .new-head .now)) (sym (c .before .before .head-digest2 .ensures)) ∙ sym (c .same2 .ensures) ∙ e
+new-head c e = ap (λ x. same x (from-new c .args .new-head .now)) (sym (c .before .before .head-at2 .ensures)) ∙ sym (c .same2 .ensures) ∙ e
 
-head-digest-requires : tie.Need-head-digest-requires
-head-digest-requires c κs = search needs
+head-at-requires : tie.Need-head-at-requires
+head-at-requires c κs = search needs
 
 slice-aggregate-same : tie.Need-slice-aggregate-same
 slice-aggregate-same c = search needs
@@ -40,8 +40,8 @@ returns c =
     let a = c .before .before .before .before .before .before .before .args in
     sym (heads-old (a .old-head .now) (a .new-head .now) (a .proof .now) (old-head (c .before) (not-true _ (c .if1 .taken))))
 
-head-digest-requires-2 : tie.Need-head-digest-requires-2
-head-digest-requires-2 c κs = search needs
+head-at-requires-2 : tie.Need-head-at-requires-2
+head-at-requires-2 c κs = search needs
 
 slice-aggregate-same-2 : tie.Need-slice-aggregate-same-2
 slice-aggregate-same-2 c = search needs
@@ -110,11 +110,11 @@ pub check-heads-spec : {M : Type 1} → statement M
 check-heads-spec =
     tie.close
     (tie.spec
-    head-digest-requires
+    head-at-requires
     slice-aggregate-same
     same-requires
     returns
-    head-digest-requires-2
+    head-at-requires-2
     slice-aggregate-same-2
     same-requires-2
     returns-2
