@@ -1,7 +1,7 @@
 -- The walk over a history's paths comes to the verdict over their tests. Assumes nothing.
 use mathlib.Core.Path.{_≡_, refl, sym, ap, ap₂, _∙_}
 use mathlib.Core.Logic.{by-cases}
-use mathlib.Core.Bool.{_&&_}
+use mathlib.Core.Bool.{false, _&&_}
 use mathlib.Core.List.{List, [], _∷_, _++_, map, map-append}
 use Prim.Native.Nat.{ℕ, zero, suc, _+_, _-_, _^_, _≤_, _<_}
 use native.Mathlib.Omega.{arith}
@@ -42,7 +42,7 @@ use Rattle.shown.proofs.Keyed.{item-told}
 use Rattle.shown.proofs.Fronts.{front-told}
 use Rattle.shown.proofs.Formed.{Formed}
 use Rattle.shown.proofs.Walked.{Suits, over, walks-tests}
-use Rattle.history.specs.Asks.{itemOn, itemAt, pathOn, placeAt, epochFrom, askVersion, askReplaced, askMarker, lack, row, lackVersions, asks, answerOf, ItemsStand}
+use Rattle.history.specs.Asks.{itemOn, itemAt, pathOn, placeAt, epochFrom, askVersion, askReplaced, askMarker, lack, row, lacks, asks, answerOf, ItemsStand}
 use Rattle.history.proofs.Powers.{marked}
 use Rattle.history.proofs.Standing.{path-moves, item-moves, path-epoch, nth}
 
@@ -156,7 +156,7 @@ module _ (s : Bytes) (w : Bytewise s) (n t : ℕ) (front : frontAt 2 s ≡ F.Rea
       all-append P (row (askVersion s start t) 1 (suc (suc m))) _ (row-all P (askVersion s start t) 1 (suc (suc m) - 1) (λ i l r. version-suits i l (omega arith)))
       (all-append P (row (askReplaced s start) 1 (suc m)) _ (row-all P (askReplaced s start) 1 (suc m - 1) (λ i l r. replaced-suits i (omega arith))) (
         lack-suits (historyTerms read) (InOld (suc m)),
-        all-append P (lackVersions (suc (suc m)) (2 ^ b)) _ (row-all P (λ i. lack (InAll i)) (suc (suc m)) (2 ^ b - suc (suc m)) (λ i l r. lack-suits (historyTerms read) (InAll i)))
+        all-append P (lacks false (suc (suc m)) (2 ^ b)) _ (row-all P (λ i. lack (InAll i)) (suc (suc m)) (2 ^ b - suc (suc m)) (λ i l r. lack-suits (historyTerms read) (InAll i)))
             (all-append P (row (askMarker s start) 0 b) _ (row-all P (askMarker s start) 0 (b - 0) (λ j l r. marker-suits j (omega (arith, k .reached, pow-mono {i = j} {j = log2 (suc m)} (omega arith)))))
             (row-all P (λ j. lack (AsMarker j)) b (markersBy t - b) (λ j l r. lack-suits (historyTerms read) (AsMarker j)))),
       ))

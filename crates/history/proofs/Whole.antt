@@ -1,5 +1,6 @@
 -- The rows of a history one behind the other are all that is asked. Assumes nothing.
 use mathlib.Core.Path.{_≡_, refl, sym, ap, _∙_}
+use mathlib.Core.Bool.{true, false}
 use mathlib.Core.List.{List, _∷_, _++_}
 use Prim.Native.Nat.{ℕ, zero, suc, _+_, _-_, _*_, _^_, _≤_}
 use native.Mathlib.Omega.{arith}
@@ -15,7 +16,7 @@ use Rattle.plan.specs.declared.Place.the-variants.{InOld}
 use Rattle.shown.specs.declared.Asked.{Asked}
 use Rattle.shown.specs.declared.Walk.{Walk}
 use Rattle.shown.proofs.Walked.{walks-append}
-use Rattle.history.specs.Asks.{askVersion, askReplaced, askMarker, lack, row, lackVersions, lackMarkers, asks, used}
+use Rattle.history.specs.Asks.{askVersion, askReplaced, askMarker, lack, row, lacks, asks, used}
 use Rattle.history.proofs.Going.{row-length, used-walked, used-walks}
 
 -- with no versions, the paths are the markers that there can be
@@ -42,20 +43,20 @@ module _ (s name : Bytes) where
       ∙ walks-append s name D E (walks s name C (walked s name x t))
 
   module _ (first T n most : ℕ) (counted : most ≡ markersBy T) (v₀ : Walk) where
-    pub no-versions : n ≡ 0 → (v : Walk) → v ≡ walks s name (lackMarkers 0 most) v₀ → v ≡ walks s name (asks s first T n) v₀
+    pub no-versions : n ≡ 0 → (v : Walk) → v ≡ walks s name (lacks true 0 most) v₀ → v ≡ walks s name (asks s first T n) v₀
     unfolding asks
-    no-versions z v e = e ∙ ap (λ k. walks s name (lackMarkers 0 k) v₀) counted ∙ ap (λ k. walks s name (asks s first T k) v₀) (sym z)
+    no-versions z v e = e ∙ ap (λ k. walks s name (lacks true 0 k) v₀) counted ∙ ap (λ k. walks s name (asks s first T k) v₀) (sym z)
 
     asks-split : (n : ℕ) → (n ≡ 0 → ⊥) → walks s name (asks s first T n) v₀
-        ≡ walks s name (lackMarkers (suc (log2 n)) (markersBy T))
+        ≡ walks s name (lacks true (suc (log2 n)) (markersBy T))
         (walks s name (row (askMarker s first) 0 (suc (log2 n)))
-        (walks s name (lackVersions (suc n) (2 ^ suc (log2 n)))
+        (walks s name (lacks false (suc n) (2 ^ suc (log2 n)))
         (walked s name (lack (InOld n)) (walks s name (row (askReplaced s first) 1 n) (walks s name (row (askVersion s first T) 1 (suc n)) v₀)))))
     unfolding asks
     asks-split zero h = absurd (h refl)
     asks-split (suc m) h =
         let b = suc (log2 (suc m)) in
-        rows-split (row (askVersion s first T) 1 (suc (suc m))) (row (askReplaced s first) 1 (suc m)) (lackVersions (suc (suc m)) (2 ^ b)) (row (askMarker s first) 0 b) (lackMarkers b (markersBy T))
+        rows-split (row (askVersion s first T) 1 (suc (suc m))) (row (askReplaced s first) 1 (suc m)) (lacks false (suc (suc m)) (2 ^ b)) (row (askMarker s first) 0 b) (lacks true b (markersBy T))
         (lack (InOld (suc m))) v₀
 
     -- row after row, as they were taken
@@ -63,8 +64,8 @@ module _ (s name : Bytes) where
         → v₁ ≡ walks s name (row (askVersion s first T) 1 (n + 1)) v₀
         → v₂ ≡ walks s name (row (askReplaced s first) 1 n) v₁
         → x ≡ lack (InOld n) → v₃ ≡ walked s name x v₂
-        → v₄ ≡ walks s name (lackVersions (n + 1) power) v₃
+        → v₄ ≡ walks s name (lacks false (n + 1) power) v₃
         → v₅ ≡ walks s name (row (askMarker s first) 0 marks) v₄
-        → v₆ ≡ walks s name (lackMarkers marks most) v₅
+        → v₆ ≡ walks s name (lacks true marks most) v₅
         → v₆ ≡ walks s name (asks s first T n) v₀
     some-versions h marks power m p v₁ v₂ v₃ v₄ v₅ v₆ x e₁ e₂ e e₃ e₄ e₅ e₆ = rw (e₆, counted, e₅, m, e₄, p, e₃, e, e₂, e₁, add-one n) (sym (asks-split n h))

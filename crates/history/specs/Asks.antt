@@ -1,5 +1,5 @@
 -- What a history's paths are asked to show, with epochs and commitments as they stand in the proof's own bytes.
-use mathlib.Core.Bool.{true, false}
+use mathlib.Core.Bool.{Bool, true, false}
 use mathlib.Core.List.{List, _∷_, _++_, map}
 use Prim.Native.Nat.{ℕ, zero, suc, _+_, _-_, _*_, _^_, _≤_, _<_}
 use lib.ListN.{length, getD}
@@ -83,22 +83,24 @@ lack x = record { place = x; there = false; commitment = zeros 32; low = 0; high
 abbrev pub row : (ℕ → Asked) → ℕ → ℕ → List Asked
 row f a b = map f (upFrom a (b - a))
 
-abbrev pub lackVersions : ℕ → ℕ → List Asked
-lackVersions a b = row (λ i. lack (InAll i)) a b
+-- a version's place in *all*, or a marker's; and those from a up to b lacking
+abbrev pub placeBy : Bool → ℕ → Place
+placeBy true j = AsMarker j
+placeBy false i = InAll i
 
-abbrev pub lackMarkers : ℕ → ℕ → List Asked
-lackMarkers a b = row (λ j. lack (AsMarker j)) a b
+abbrev pub lacks : Bool → ℕ → ℕ → List Asked
+lacks marker a b = row (λ i. lack (placeBy marker i)) a b
 
 -- all paths of a history of n versions at epoch T, of which the first stands at `first`
 unfoldable pub asks : Bytes → ℕ → ℕ → ℕ → List Asked
-asks s first T zero = lackMarkers 0 (markersBy T)
+asks s first T zero = lacks true 0 (markersBy T)
 asks s first T (suc m) =
     row (askVersion s first T) 1 (suc (suc m))
     ++ (row (askReplaced s first) 1 (suc m)
     ++ (lack (InOld (suc m))
-    ∷ (lackVersions (suc (suc m)) (2 ^ suc (log2 (suc m)))
+    ∷ (lacks false (suc (suc m)) (2 ^ suc (log2 (suc m)))
     ++ (row (askMarker s first) 0 (suc (log2 (suc m)))
-    ++ lackMarkers (suc (log2 (suc m))) (markersBy T)))))
+    ++ lacks true (suc (log2 (suc m))) (markersBy T)))))
 
 -- "a history its n, each with the head's epoch and its digests"
 abbrev pub answerOf : ℕ → ℕ → Walk → HistoryAnswer

@@ -8,8 +8,7 @@ use names::is_name;
 use paper::HistoryAnswer;
 use plan::Place;
 use plan::history_paths;
-use rows::absent_markers;
-use rows::absent_versions;
+use rows::absent;
 use rows::markers;
 use rows::replaced;
 use rows::versions;
@@ -43,15 +42,15 @@ fn walk_paths(s: &[u8], name: &[u8], first: usize, n: u16, epoch: u32) -> Walk
         epoch: 0,
     };
     if n == 0 {
-        return absent_markers(s, name, 0, most, start);
+        return absent(s, name, true, 0, most, start);
     }
     let marks = bits::marker_of(n as u32) as u16 + 1;
     let all = versions(s, name, first, n, epoch, start);
     let old = replaced(s, name, first, n, all);
     let current = take_path(s, name, old, missing(Place::InOld(n)));
-    let last = absent_versions(s, name, n + 1, 1u16 << marks, current);
+    let last = absent(s, name, false, n + 1, 1u16 << marks, current);
     let marked = markers(s, name, first, marks, last);
-    absent_markers(s, name, marks, most, marked)
+    absent(s, name, true, marks, most, marked)
 }
 
 // "a history its n, each with the head's epoch and its digests". A path that was refused refuses here.

@@ -10,7 +10,7 @@ use shown::take_path;
 ghost use mathlib.Core.Path.{_≡_};
 ghost use Prim.Native.Nat.{_+_, _-_, _≤_};
 ghost use Rattle.shown.specs.Walk.{walks};
-ghost use Rattle.history.specs.Asks.{askVersion, askReplaced, askMarker, row, lackVersions, lackMarkers, Ahead, VersionsAhead};
+ghost use Rattle.history.specs.Asks.{askVersion, askReplaced, askMarker, row, placeBy, lacks, Ahead, VersionsAhead};
 
 // "Versions 1 to n present in *all*.": each with its key's commitment, later than the one before, and at an epoch up to the head's.
 pub(crate) fn versions(s: &[u8], name: &[u8], first: usize, n: u16, epoch: u32, walk: Walk) -> Walk
@@ -49,14 +49,24 @@ pub(crate) fn replaced(s: &[u8], name: &[u8], first: usize, n: u16, walk: Walk) 
     taken
 }
 
-// Versions from `low` up to `high` absent from *all*.
-pub(crate) fn absent_versions(s: &[u8], name: &[u8], low: u16, high: u16, walk: Walk) -> Walk
+// A version's place in *all*, or a marker's.
+fn place(marker: bool, i: u16) -> Place
+    ensures { λ r. ⌜ r ≡ placeBy marker i ⌝ }
+{
+    if marker {
+        return Place::AsMarker(i);
+    }
+    Place::InAll(i)
+}
+
+// Versions, or markers, from `low` up to `high` absent from *all*.
+pub(crate) fn absent(s: &[u8], name: &[u8], marker: bool, low: u16, high: u16, walk: Walk) -> Walk
     requires { ⌜ Ahead (now s) (now name) (high - low) walk ⌝ }
-    ensures { λ r. ⌜ r ≡ walks (now (s .entry)) (now (name .entry)) (lackVersions low high) walk ⌝ }
+    ensures { λ r. ⌜ r ≡ walks (now (s .entry)) (now (name .entry)) (lacks marker low high) walk ⌝ }
 {
     let mut taken = walk;
     for i in low..high {
-        taken = take_path(s, name, taken, missing(Place::InAll(i)));
+        taken = take_path(s, name, taken, missing(place(marker, i)));
     }
     taken
 }
@@ -70,18 +80,6 @@ pub(crate) fn markers(s: &[u8], name: &[u8], first: usize, marks: u16, walk: Wal
     for j in 0..marks {
         let e = epoch_behind(s, first, (1usize << j) - 1) as u64;
         taken = take_path(s, name, taken, present(Place::AsMarker(j), [0u8; 32], e, e));
-    }
-    taken
-}
-
-// Markers from `low` up to `high` absent.
-pub(crate) fn absent_markers(s: &[u8], name: &[u8], low: u16, high: u16, walk: Walk) -> Walk
-    requires { ⌜ Ahead (now s) (now name) (high - low) walk ⌝ }
-    ensures { λ r. ⌜ r ≡ walks (now (s .entry)) (now (name .entry)) (lackMarkers low high) walk ⌝ }
-{
-    let mut taken = walk;
-    for j in low..high {
-        taken = take_path(s, name, taken, missing(Place::AsMarker(j)));
     }
     taken
 }

@@ -26,8 +26,8 @@ most-few c = markers-counted (start c .args .epoch) (c .history-paths .result) (
 cast-most : tie.Need-cast-most
 cast-most c = omega (arith, most-few c)
 
-absent-markers-requires : tie.Need-absent-markers-requires
-absent-markers-requires c κs =
+absent-requires : tie.Need-absent-requires
+absent-requires c κs =
     let a = start (c .before) in
     record { front = a .pre .front; short = a .pre .short; room = omega (arith, most-few (c .before), a .pre .small) }
 
@@ -36,7 +36,7 @@ returns c =
     let h = c .before .before in
     let a = start h .args in
     no-versions (a .s .now) (a .name .now) (a .first) (a .epoch) (a .n) (h .history-paths .result) (markers-counted (a .epoch) (h .history-paths .result) (h .history-paths .ensures) .0) _
-    (c .before .if1 .taken) (c .absent-markers .result) (c .absent-markers .ensures)
+    (c .before .if1 .taken) (c .absent .result) (c .absent .ensures)
 
 abbrev paths : tie.After-marker-of → tie.After-history-paths
 paths c = c .before .before
@@ -80,7 +80,7 @@ power-is c =
     let p = ap (λ j. 2 ^ j) e in
     omega (arith, m .small)
 
-last-used : (c : tie.After-absent-versions) → used (c .absent-versions .result) ≤ 810000
+last-used : (c : tie.After-absent2) → used (c .absent2 .result) ≤ 810000
 last-used c =
     let h = paths (marker (c .before)) in
     let a = start h .args in
@@ -89,7 +89,7 @@ last-used c =
       marks (marker (c .before)) .small,
       power-is (c .before),
       current-used (c .before),
-      row-used (a .s .now) (a .name .now) (bytes h) (λ i. lack (InAll i)) (a .n + 1) _ _ (c .absent-versions .result) (c .absent-versions .ensures),
+      row-used (a .s .now) (a .name .now) (bytes h) (λ i. lack (InAll i)) (a .n + 1) _ _ (c .absent2 .result) (c .absent2 .ensures),
     )
 
 marked-used : (c : tie.After-markers) → used (c .markers .result) ≤ 820000
@@ -116,11 +116,11 @@ take-path-requires c κs =
     let a = start (paths (r .before .before)) in
     used-ready (a .args .s .now) (a .args .name .now) (r .replaced .result) (a .pre .front) (a .pre .short) (omega (arith, replaced-used r))
 
-shl-absent-versions : tie.Need-shl-absent-versions
-shl-absent-versions c = omega (arith, marks (marker c) .few, marker c .marker-of .ensures)
+shl-absent : tie.Need-shl-absent
+shl-absent c = omega (arith, marks (marker c) .few, marker c .marker-of .ensures)
 
-absent-versions-requires : tie.Need-absent-versions-requires
-absent-versions-requires c κs =
+absent-requires-2 : tie.Need-absent-requires-2
+absent-requires-2 c κs =
     let a = start (paths (marker c)) in
     record { front = a .pre .front; short = a .pre .short; room = omega (arith, marks (marker c) .small, power-is c, current-used c) }
 
@@ -132,8 +132,8 @@ markers-requires c κs =
       omega (arith, marks k .few, k .marker-of .ensures),
     )
 
-absent-markers-requires-2 : tie.Need-absent-markers-requires-2
-absent-markers-requires-2 c κs =
+absent-requires-3 : tie.Need-absent-requires-3
+absent-requires-3 c κs =
     let h = paths (marker (c .before .before)) in
     let a = start h in
     record { front = a .pre .front; short = a .pre .short; room = omega (arith, most-few h, marked-used c) }
@@ -151,8 +151,8 @@ returns-2 c =
     let a = start h .args in
     some-versions (a .s .now) (a .name .now) (a .first) (a .epoch) (a .n) (h .history-paths .result) (markers-counted (a .epoch) (h .history-paths .result) (h .history-paths .ensures) .0) _
     (k .before .if1 .left) (k .marker-of .result + 1) (1 * 2 ^ (k .marker-of .result + 1) % 2 ^ 16) (omega (arith, k .marker-of .ensures)) (power-is t)
-    (v .versions .result) (r .replaced .result) (t .take-path .result) (g .absent-versions .result) (m .markers .result) (c .absent-markers2 .result) (x .missing .result)
-    (v .versions .ensures) (r .replaced .ensures) (x .missing .ensures) (t .take-path .ensures) (g .absent-versions .ensures) (m .markers .ensures) (c .absent-markers2 .ensures)
+    (v .versions .result) (r .replaced .result) (t .take-path .result) (g .absent2 .result) (m .markers .result) (c .absent3 .result) (x .missing .result)
+    (v .versions .ensures) (r .replaced .ensures) (x .missing .ensures) (t .take-path .ensures) (g .absent2 .ensures) (m .markers .ensures) (c .absent3 .ensures)
 
 pub walk-paths-spec : {M : Type 1} → statement M
 walk-paths-spec =
@@ -161,7 +161,7 @@ walk-paths-spec =
     (λ c κs. search needs)
     cast-most
     (λ c. search needs)
-    absent-markers-requires
+    absent-requires
     returns
     (λ c κs. search needs)
     cast-marks
@@ -171,8 +171,8 @@ walk-paths-spec =
     (λ c κs. search needs)
     take-path-requires
     (λ c. search needs)
-    shl-absent-versions
-    absent-versions-requires
+    shl-absent
+    absent-requires-2
     markers-requires
-    absent-markers-requires-2
+    absent-requires-3
     returns-2)
