@@ -10,7 +10,6 @@ use strings::commitment;
 use strings::label;
 use words::put;
 use words::write32;
-ghost use mathlib.Core.Path.{_≡_};
 ghost use mathlib.Core.Bool.{true, false};
 ghost use mathlib.Core.List.{[], _∷_};
 ghost use Prim.Native.Nat.{_+_, _*_, _≤_};

@@ -3,7 +3,7 @@ use path::End;
 use path::parse;
 ghost use mathlib.Core.Path.{_≡_};
 ghost use Prim.Native.Nat.{_+_};
-ghost use Rattle.history.specs.Asks.{endEpoch, leafAt, placeAt, epochFrom};
+ghost use Rattle.history.specs.Asks.{endEpoch, leafAt, epochFrom};
 
 // The epoch of a path's leaf, and the place behind the path.
 pub struct Leaf {

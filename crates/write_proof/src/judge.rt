@@ -11,7 +11,6 @@ use record::version_at;
 ghost use mathlib.Core.Path.{_≡_};
 ghost use Prim.Native.Nat.{ℕ, suc, _+_};
 ghost use lib.Dec.{leb};
-ghost use lib.ListN.{length};
 ghost use Rattle.paper.specs.Level.{leavesIn};
 ghost use Rattle.record.specs.Places.{Stands};
 ghost use Rattle.paths.specs.Paths.{Trees};
