@@ -10,7 +10,7 @@
  *  - No overlap: memory that a call may write to overlaps no other memory that is lent to that call, and nobody else reads or writes it
  *    during the call. Memory that is only read may overlap.
  *  - Stack: docs/SIZES.md says how much each function takes. A checker takes little; publish and the writers take megabytes.
- *  - The compiler's back end, this header, and that the machine has 64-bit addresses.
+ *  - The compiler's back end, this header, and that the machine has 64-bit addresses; on Arm also what tools/archive says of it.
  *
  * Functions keep nothing between calls, so they may be called from several threads at once over different memory.
  */
