@@ -172,12 +172,16 @@ start-kept lab records heads state rb hb w e = ⊎-elim began refused (verdict-c
         let z : S.Refused n ≡ S.Started state = ap (λ x. x .answer) (sym q) ∙ e in
         let y : _≡_ {A = ℕ} 0 1 = cc in absurd (omega arith)
 
-pub left-kept : (lab : Labelling) {records heads : Bytes} {state : State} → Left lab records heads state → Kept lab records heads state
-left-kept lab (started {state = s} records heads rb hb w e) = start-kept lab records heads s rb hb w e
-left-kept lab (published {records = records} {heads = heads} {state = state} {next = s} l batch b e) =
-    let k = left-kept lab l in
+-- a publishing that succeeds leaves what is kept
+publish-kept : (lab : Labelling) (records heads : Bytes) (state : State) → Kept lab records heads state → (batch : Bytes) → Bytewise batch → (s : State)
+    → publish lab records heads state batch .answer ≡ P.Published s → Kept lab (publish lab records heads state batch .records) (publish lab records heads state batch .heads) s
+publish-kept lab records heads state k batch b s e =
     let x = kept-success lab records heads state k batch s e in
     let n = state .count + length (more lab records heads state k batch b x) in
     let z : P.Published (record { count = n; epoch = suc (state .epoch) }) ≡ P.Published s = ap (λ y. y .answer) (sym (x .leaves)) ∙ e in
     let q : record { count = n; epoch = suc (state .epoch) } ≡ s = cc in
     subst (λ y. Kept lab (y .records) (y .heads) s) (sym (x .leaves)) (subst (Kept lab _ _) q (kept-published lab records heads state k batch b x (fields-bytes _ (lie lab records heads state k batch b x .fit))))
+
+pub left-kept : (lab : Labelling) {records heads : Bytes} {state : State} → Left lab records heads state → Kept lab records heads state
+left-kept lab (started {state = s} records heads rb hb w e) = start-kept lab records heads s rb hb w e
+left-kept lab (published {records = records} {heads = heads} {state = state} {next = s} l batch b e) = publish-kept lab records heads state (left-kept lab l) batch b s e
