@@ -6,8 +6,8 @@
 use audit_form::in_layout;
 use audit_root::root;
 use audit_rules::list_rules;
+use heads::head_at;
 use paper::AuditAnswer;
-use strings::head_at;
 use words::digest_at;
 use words::read32;
 use words::same;

@@ -1,13 +1,13 @@
 // The leaves that records give the trees of an epoch, one behind the other in a row of entries: label 32, commitment 32,
 // epoch 4. Labels and commitments are hashed here and nowhere else in the server.
 use bits::marker_of;
+use labels::commitment;
+use labels::label;
 use record::epoch_at;
 use record::key_at;
 use record::name_at;
 use record::opening_at;
 use record::version_at;
-use strings::commitment;
-use strings::label;
 use words::put;
 use words::write32;
 ghost use mathlib.Core.Bool.{true, false};

@@ -33,10 +33,10 @@ fn sample(part: u8, n: u8) -> [u8; 32] {
 // What holds a number of 32 bits: a leaf, a head, and bytes that it is written to, from which
 // numbers are read, at its own place and at others.
 fn epoch(n: u8, e: u32) {
-    show(b"leaf ", &strings::leaf(&sample(1, n), &sample(2, n), e));
+    show(b"leaf ", &nodes::leaf(&sample(1, n), &sample(2, n), e));
     show(
         b"head ",
-        &strings::head(e, &sample(1, n), &sample(2, n), &sample(3, n)),
+        &heads::head(e, &sample(1, n), &sample(2, n), &sample(3, n)),
     );
     let mut bytes = [0xEEu8; 9];
     words::write32(&mut bytes, 1, e);
@@ -67,20 +67,20 @@ fn epochs() {
 fn node(n: u8, length: u16) {
     show(
         b"inner ",
-        &strings::inner(length, &sample(1, n), &sample(2, n), &sample(3, n)),
+        &nodes::inner(length, &sample(1, n), &sample(2, n), &sample(3, n)),
     );
     show(
         b"below 0 ",
-        &strings::join(false, length, &sample(1, n), &sample(2, n), &sample(3, n)),
+        &nodes::join(false, length, &sample(1, n), &sample(2, n), &sample(3, n)),
     );
     show(
         b"below 1 ",
-        &strings::join(true, length, &sample(1, n), &sample(2, n), &sample(3, n)),
+        &nodes::join(true, length, &sample(1, n), &sample(2, n), &sample(3, n)),
     );
 }
 
 fn nodes() {
-    show(b"nothing ", &strings::nothing());
+    show(b"nothing ", &nodes::nothing());
     node(0, 0);
     node(1, 1);
     node(2, 7);
@@ -100,7 +100,7 @@ fn label(kind: u8, number: u16, n: usize)
     requires { ⌜ n ≤ 64 ⌝ }
 {
     let name: &[u8] = b"!0123456789abcdefghijklmnopqrstuvwxyz@example.org/NOONHAGGLE(x)~";
-    show(b"label ", &strings::label(kind, number, &name[0..n]));
+    show(b"label ", &labels::label(kind, number, &name[0..n]));
 }
 
 fn labels() {
@@ -127,7 +127,7 @@ fn commitment(n: usize)
     words::put(&mut key, 32, &sample(5, 1));
     show(
         b"commitment ",
-        &strings::commitment(&sample(6, 1), &key[0..n]),
+        &labels::commitment(&sample(6, 1), &key[0..n]),
     );
 }
 

@@ -17,7 +17,7 @@ use Rattle.paper.proofs.Bytes.{bitsOf-length, pack-bitsOf}
 use Rattle.paper.proofs.Lists.{all-take, all-drop}
 use Rattle.paper.proofs.Fits.{Wide}
 use Rattle.words.proofs.Pasted.{length-part}
-use Rattle.strings.specs.Join.{joined}
+use Rattle.nodes.specs.Join.{joined}
 use Rattle.path.specs.Places.{stepIn, stepsIn, endIn, climbed, StepStands, EndStands}
 use Rattle.path.specs.declared.End as E
 use Rattle.path.specs.declared.End.the-variants.{This, Other, Off}

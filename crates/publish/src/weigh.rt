@@ -8,7 +8,7 @@ use batch::no_name_twice;
 use bounds::batch_within;
 use bounds::heads_within;
 use bounds::records_within;
-use strings::head;
+use heads::head;
 use table::in_shape;
 use words::digest_at;
 ghost use mathlib.Core.Path.{_≡_};

@@ -1,6 +1,6 @@
 // The head in a proof's front: "the 100 bytes of a head after its 0x03", behind the six bytes of the header.
+use heads::head_at;
 use plan::Place;
-use strings::head_at;
 use words::digest_at;
 use words::same;
 ghost use mathlib.Core.Path.{_≡_};

@@ -47,5 +47,5 @@ pub fn commitment_at(s: &[u8], at: usize) -> [u8; 32]
     let key = at + 1;
     let after = key + s[at] as usize;
     let opening = digest_at(s, after);
-    strings::commitment(&opening, &s[key..after])
+    labels::commitment(&opening, &s[key..after])
 }

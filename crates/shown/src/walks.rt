@@ -48,9 +48,9 @@ fn label_of(place: Place, name: &[u8]) -> [u8; 32]
     ensures { λ r. ⌜ r ≡ labelOf (now (name .entry)) place ⌝ }
 {
     match place {
-        Place::InAll(i) => strings::label(1, i, name),
-        Place::InOld(i) => strings::label(1, i, name),
-        Place::AsMarker(j) => strings::label(2, j, name),
+        Place::InAll(i) => labels::label(1, i, name),
+        Place::InOld(i) => labels::label(1, i, name),
+        Place::AsMarker(j) => labels::label(2, j, name),
     }
 }
 

@@ -1,10 +1,10 @@
 // "Starting a directory tests 1 only and writes head 0; it has no records."
 use bounds::heads_within;
+use heads::head;
+use nodes::inner;
+use nodes::nothing;
 use paper::StartAnswer;
 use paper::State;
-use strings::head;
-use strings::inner;
-use strings::nothing;
 use words::put;
 ghost use mathlib.Core.Path.{_≡_};
 ghost use mathlib.Core.List.{[]};

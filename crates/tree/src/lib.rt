@@ -6,9 +6,9 @@
 use bits::first_difference;
 use bits::label_bit;
 use bits::prefix_of;
-use strings::inner;
-use strings::leaf;
-use strings::nothing;
+use nodes::inner;
+use nodes::leaf;
+use nodes::nothing;
 use words::digest_at;
 use words::put;
 use words::read32;

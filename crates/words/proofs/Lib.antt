@@ -3,3 +3,4 @@ pub mod Pasted
 pub mod Number
 pub mod Compare
 pub mod Slices
+pub mod Row

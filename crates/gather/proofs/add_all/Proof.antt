@@ -25,8 +25,8 @@ use Rattle.record.proofs.key_at.Reads as key-at-reads
 use Rattle.record.proofs.name_at.Reads as name-at-reads
 use Rattle.record.proofs.opening_at.Reads as opening-at-reads
 use Rattle.record.proofs.version_at.Reads as version-at-reads
-use Rattle.strings.proofs.commitment.Reads as commitment-reads
-use Rattle.strings.proofs.label.Reads as label-reads
+use Rattle.labels.proofs.commitment.Reads as commitment-reads
+use Rattle.labels.proofs.label.Reads as label-reads
 
 -- src/lib.rt:41:9
 name-at-requires : tie.Need-name-at-requires

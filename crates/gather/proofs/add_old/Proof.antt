@@ -18,7 +18,7 @@ use Rattle.gather.proofs.put_leaf.Reads as put-leaf-reads
 use Rattle.record.proofs.epoch_at.Reads as epoch-at-reads
 use Rattle.record.proofs.name_at.Reads as name-at-reads
 use Rattle.record.proofs.version_at.Reads as version-at-reads
-use Rattle.strings.proofs.label.Reads as label-reads
+use Rattle.labels.proofs.label.Reads as label-reads
 
 -- src/lib.rt:58:9
 version-at-requires : tie.Need-version-at-requires

@@ -10,8 +10,8 @@ use Rattle.start.proofs.empty_root.Statement.{statement}
 use Rattle.start.proofs.empty_root.Tie as tie
 use Rattle.start.proofs.empty_root.Reads as reads
 use Rattle.start.proofs.empty_root.Lts as lts
-use Rattle.strings.proofs.inner.Reads as inner-reads
-use Rattle.strings.proofs.nothing.Reads as nothing-reads
+use Rattle.nodes.proofs.inner.Reads as inner-reads
+use Rattle.nodes.proofs.nothing.Reads as nothing-reads
 
 -- src/lib.rt:19:16
 nothing-requires : tie.Need-nothing-requires

@@ -18,7 +18,7 @@ use Rattle.publish.proofs.weigh.head_of.Reads as reads
 use Rattle.publish.proofs.weigh.head_of.Lts as lts
 use Rattle.publish.proofs.plant.plant.Reads as plant-reads
 use Rattle.publish.proofs.weigh.refused.Reads as refused-reads
-use Rattle.strings.proofs.head.Reads as head-reads
+use Rattle.heads.proofs.head.Reads as head-reads
 use Rattle.words.proofs.digest_at.Reads as digest-at-reads
 
 -- src/weigh.rt:65:47

@@ -1,4 +1,4 @@
--- `strings::label`: the three parts are the front of the array, behind its first byte.
+-- `labels::label`: the three parts are the front of the array, behind its first byte.
 use borrow.Author.Needs.{needs}
 use native.Mathlib.Omega.{arith}
 use mathlib.Core.Path.{sym, ap, _∙_}
@@ -10,9 +10,9 @@ use Rattle.fips.specs.Sha256.{sha256}
 use Rattle.paper.specs.Bytes.{be}
 use Rattle.paper.specs.Strings.{labelString}
 use Rattle.paper.proofs.Bytes.{be-length}
-use Rattle.strings.proofs.Row.{Parts, row-front}
-use Rattle.strings.proofs.label.Statement.{statement}
-use Rattle.strings.proofs.label.Tie as tie
+use Rattle.words.proofs.Row.{Parts, row-front}
+use Rattle.labels.proofs.label.Statement.{statement}
+use Rattle.labels.proofs.label.Tie as tie
 
 slice-aggregate-sha256 : tie.Need-slice-aggregate-sha256
 slice-aggregate-sha256 c = sym (length-take-le _ _ (search needs))

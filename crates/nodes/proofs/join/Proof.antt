@@ -1,8 +1,8 @@
--- `strings::join`: the sides are those that the bit picks.
+-- `nodes::join`: the sides are those that the bit picks.
 use borrow.Author.Needs.{needs}
-use Rattle.strings.specs.Join.{joined}
-use Rattle.strings.proofs.join.Statement.{statement}
-use Rattle.strings.proofs.join.Tie as tie
+use Rattle.nodes.specs.Join.{joined}
+use Rattle.nodes.proofs.join.Statement.{statement}
+use Rattle.nodes.proofs.join.Tie as tie
 
 returns : tie.Need-returns
 unfolding joined

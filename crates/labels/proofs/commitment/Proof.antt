@@ -1,4 +1,4 @@
--- `strings::commitment`: the two parts are the front of the array, behind its first byte.
+-- `labels::commitment`: the two parts are the front of the array, behind its first byte.
 use borrow.Author.Needs.{needs}
 use native.Mathlib.Omega.{arith}
 use mathlib.Core.Path.{sym, ap, _∙_}
@@ -8,9 +8,9 @@ use lib.ListN.{length}
 use lib.Seq.{length-take-le}
 use Rattle.fips.specs.Sha256.{sha256}
 use Rattle.paper.specs.Strings.{commitmentString}
-use Rattle.strings.proofs.Row.{Parts, row-front}
-use Rattle.strings.proofs.commitment.Statement.{statement}
-use Rattle.strings.proofs.commitment.Tie as tie
+use Rattle.words.proofs.Row.{Parts, row-front}
+use Rattle.labels.proofs.commitment.Statement.{statement}
+use Rattle.labels.proofs.commitment.Tie as tie
 
 slice-aggregate-sha256 : tie.Need-slice-aggregate-sha256
 slice-aggregate-sha256 c = sym (length-take-le _ _ (search needs))

@@ -1,8 +1,8 @@
--- `strings::nothing`: the string is the array.
+-- `nodes::nothing`: the string is the array.
 use borrow.Author.Needs.{needs}
 use Rattle.paper.specs.Strings.{nothingString}
-use Rattle.strings.proofs.nothing.Statement.{statement}
-use Rattle.strings.proofs.nothing.Tie as tie
+use Rattle.nodes.proofs.nothing.Statement.{statement}
+use Rattle.nodes.proofs.nothing.Tie as tie
 
 returns : tie.Need-returns
 unfolding nothingString

@@ -1,8 +1,8 @@
--- `strings::head_at`: the parts of the head are hashed as they were read.
+-- `heads::head_at`: the parts of the head are hashed as they were read.
 use borrow.Author.Needs.{needs}
 use mathlib.Core.Path.{_∙_}
-use Rattle.strings.proofs.head_at.Statement.{statement}
-use Rattle.strings.proofs.head_at.Tie as tie
+use Rattle.heads.proofs.head_at.Statement.{statement}
+use Rattle.heads.proofs.head_at.Tie as tie
 
 returns : tie.Need-returns
 returns c =

@@ -1,4 +1,4 @@
--- `strings::head`: the four parts fill the array behind its first byte.
+-- `heads::head`: the four parts fill the array behind its first byte.
 use borrow.Author.Needs.{needs}
 use native.Mathlib.Omega.{arith}
 use mathlib.Core.Path.{ap, _∙_}
@@ -7,9 +7,9 @@ use Rattle.fips.specs.Sha256.{sha256}
 use Rattle.paper.specs.Bytes.{be}
 use Rattle.paper.specs.Strings.{headString, headBytes}
 use Rattle.paper.proofs.Bytes.{be-length}
-use Rattle.strings.proofs.Row.{Parts, row-all}
-use Rattle.strings.proofs.head.Statement.{statement}
-use Rattle.strings.proofs.head.Tie as tie
+use Rattle.words.proofs.Row.{Parts, row-all}
+use Rattle.heads.proofs.head.Statement.{statement}
+use Rattle.heads.proofs.head.Tie as tie
 
 returns : tie.Need-returns
 unfolding headString headBytes

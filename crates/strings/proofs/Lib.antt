@@ -1,2 +1,0 @@
--- Laws of strings that are laid out part by part.
-pub mod Row
