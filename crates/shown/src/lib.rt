@@ -1,16 +1,16 @@
 // What a lookup check and a history check share. Each is lent a head, a name and the bytes of a proof. The layout of the whole
 // proof is tested before anything is hashed; then the paths are taken in order, each from the place behind the one before.
 // A proof is never copied: what is known of it are places in it and numbers.
-mod heads;
 mod items;
 mod layout;
+mod opened;
 mod walks;
 
-pub use heads::head_hashes;
 pub use items::commitment_at;
 pub use items::item_after;
 pub use layout::first_path;
 pub use layout::read_front;
+pub use opened::head_hashes;
 use plan::Place;
 pub use walks::epoch_of;
 pub use walks::missing;

@@ -4,7 +4,7 @@ use crate::FORM;
 use crate::ROOT;
 use crate::RULE;
 use crate::Walk;
-use crate::heads::root_at;
+use crate::opened::root_at;
 use path::Shown;
 use path::take;
 use plan::Place;

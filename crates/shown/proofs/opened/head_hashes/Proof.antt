@@ -1,8 +1,8 @@
--- `shown::heads::head_hashes`: the opening stands at 6.
+-- `shown::opened::head_hashes`: the opening stands at 6.
 use borrow.Author.Needs.{needs}
 use mathlib.Core.Path.{_∙_}
-use Rattle.shown.proofs.heads.head_hashes.Statement.{statement}
-use Rattle.shown.proofs.heads.head_hashes.Tie as tie
+use Rattle.shown.proofs.opened.head_hashes.Statement.{statement}
+use Rattle.shown.proofs.opened.head_hashes.Tie as tie
 
 returns : tie.Need-returns
 returns c = c .same .ensures ∙ rw (c .before .before .head-at .ensures)

@@ -1,7 +1,7 @@
--- `shown::heads::root_at`: each place is in the tree whose root is read.
+-- `shown::opened::root_at`: each place is in the tree whose root is read.
 use borrow.Author.Needs.{needs}
-use Rattle.shown.proofs.heads.root_at.Statement.{statement}
-use Rattle.shown.proofs.heads.root_at.Tie as tie
+use Rattle.shown.proofs.opened.root_at.Statement.{statement}
+use Rattle.shown.proofs.opened.root_at.Tie as tie
 
 returns : tie.Need-returns
 returns c = rw (c .before .enum-told .given .1) (c .digest-at .ensures)
