@@ -17,7 +17,7 @@ use Rattle.paper.proofs.Lists.{all-drop}
 use Rattle.paper.proofs.Layouts.{Lawful}
 use Rattle.paper.proofs.Proofs.{item-lawful}
 use Rattle.paper.proofs.Fits.{item-fits}
-use Rattle.path.specs.Parsed.{placed, pathOf, pathAt}
+use Rattle.path_form.specs.Parsed.{placed, pathOf, pathAt}
 use Rattle.fields.specs.After.{afterOf}
 use Rattle.fields.specs.declared.After.the-variants.{At}
 use Rattle.fields.proofs.Behind.{First, first-of}

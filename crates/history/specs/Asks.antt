@@ -10,9 +10,9 @@ use Rattle.paper.specs.Bits.{log2}
 use Rattle.paper.specs.History.{markersBy}
 use Rattle.paper.specs.declared.HistoryAnswer.{HistoryAnswer}
 use Rattle.paper.specs.declared.HistoryAnswer.the-variants as H
-use Rattle.path.specs.Parsed.{pathAt}
-use Rattle.path.specs.declared.End.{End}
-use Rattle.path.specs.declared.End.the-variants.{This, Other, Off, Nothing}
+use Rattle.path_form.specs.Parsed.{pathAt}
+use Rattle.path_form.specs.declared.End.{End}
+use Rattle.path_form.specs.declared.End.the-variants.{This, Other, Off, Nothing}
 use Rattle.shown.specs.Form.{ItemStands, commitmentIn}
 use Rattle.plan.specs.declared.Place.{Place}
 use Rattle.plan.specs.declared.Place.the-variants.{InAll, InOld, AsMarker}

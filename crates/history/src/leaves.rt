@@ -1,6 +1,6 @@
 // The epochs of versions, read again from their paths where they are asked of other leaves.
-use path::End;
-use path::parse;
+use path_form::End;
+use path_form::parse;
 ghost use mathlib.Core.Path.{_≡_};
 ghost use Prim.Native.Nat.{_+_};
 ghost use Rattle.history.specs.Asks.{endEpoch, leafAt, epochFrom};

@@ -18,10 +18,10 @@ use Rattle.paper.proofs.Lists.{all-take, all-drop}
 use Rattle.paper.proofs.Fits.{Wide}
 use Rattle.words.proofs.Pasted.{length-part}
 use Rattle.nodes.specs.Join.{joined}
-use Rattle.path.specs.Places.{stepIn, stepsIn, endIn, climbed, StepStands, EndStands}
-use Rattle.path.specs.declared.End as E
-use Rattle.path.specs.declared.End.the-variants.{This, Other, Off}
-use Rattle.path.proofs.Steps.{step-at, no-more}
+use Rattle.path_form.specs.Places.{stepIn, stepsIn, endIn, climbed, StepStands, EndStands}
+use Rattle.path_form.specs.declared.End as E
+use Rattle.path_form.specs.declared.End.the-variants.{This, Other, Off}
+use Rattle.path_form.proofs.Steps.{step-at, no-more}
 
 -- ---- the node of a step, and of an end
 

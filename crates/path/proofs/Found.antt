@@ -17,16 +17,16 @@ use Rattle.paper.specs.Path as P
 use Rattle.paper.proofs.Lists.{and-left, and-right, all-take, all-drop, not-both}
 use Rattle.paper.proofs.Layouts.{then-got}
 use Rattle.words.proofs.Pasted.{length-part}
-use Rattle.path.specs.Places.{stepsIn, ranged, prefixLength, prefixBytes, prefixGood, endIn, pathIn, EndStands, PathStands}
-use Rattle.path.specs.Parsed.{placed, pathOf, pathAt}
+use Rattle.path_form.specs.Places.{stepsIn, ranged, prefixLength, prefixBytes, prefixGood, endIn, pathIn, EndStands, PathStands}
+use Rattle.path_form.specs.Parsed.{placed, pathOf, pathAt}
 use Rattle.path.specs.Taken.{shownBy, takenOf, taken}
-use Rattle.path.specs.declared.Path.{Path}
+use Rattle.path_form.specs.declared.Path.{Path}
 use Rattle.path.specs.declared.Taken.{Taken}
 use Rattle.fields.proofs.Flat.{flat-got, within-flat}
 use Rattle.fields.proofs.Prefix.{cut-same}
-use Rattle.path.proofs.Fields.{this-flat, other-flat, off-flat, none-flat, steps-flat}
-use Rattle.path.proofs.Steps.{steps-length}
-use Rattle.path.proofs.Reading.{body-reads, counted}
+use Rattle.path_form.proofs.Fields.{this-flat, other-flat, off-flat, none-flat, steps-flat}
+use Rattle.path_form.proofs.Steps.{steps-length}
+use Rattle.path_form.proofs.Reading.{body-reads, counted}
 
 -- ---- an end
 

@@ -17,9 +17,9 @@ use Rattle.paper.proofs.Bits.{pfx-take, pfx-trans, starts-pfx, pfx-starts, lcp-
 use Rattle.paper.proofs.Bytes.{bitsOf-length}
 use Rattle.words.proofs.Pasted.{length-part, rest-is}
 use Rattle.bits.proofs.Lcp.{both-ways, shorter, first-bits}
-use Rattle.path.specs.Places.{endIn, EndStands}
+use Rattle.path_form.specs.Places.{endIn, EndStands}
 use Rattle.path.specs.Taken.{absentBy, shownAt, parting}
-use Rattle.path.specs.declared.End.the-variants.{Other, Off}
+use Rattle.path_form.specs.declared.End.the-variants.{Other, Off}
 use Rattle.path.specs.declared.Shown.the-variants.{Absent, Neither}
 use Rattle.fields.proofs.Flat.{and-false}
 

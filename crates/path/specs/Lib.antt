@@ -1,4 +1,2 @@
 -- What the contracts of the path check say, over document 01's reading of bytes.
-pub mod Places
-pub mod Parsed
 pub mod Taken

@@ -10,7 +10,7 @@ use Rattle.paper.specs.Layout.{Read, got, bad}
 use Rattle.paper.specs.Fields.{pathField}
 use Rattle.paper.specs.Path.{this, other, off, none, pathRoot, lastLength, absent}
 use Rattle.paper.specs.Path as P
-use Rattle.path.specs.Parsed.{commitmentOf}
+use Rattle.path_form.specs.Parsed.{commitmentOf}
 use Rattle.path.specs.declared.Shown.{Shown}
 use Rattle.path.specs.declared.Shown.the-variants.{Present, Absent, Neither}
 use Rattle.path.specs.declared.Taken.{Taken}

@@ -1,17 +1,17 @@
 // What a path's end shows of a label. "With k the last step's length, another leaf has the label's first k+1 bits and is not the
 // label; another inner node is longer than k+1, has those bits and is no prefix of the label.": both say that the label and what
 // stands there part behind bit k, and before the bits of what stands there end.
-use crate::End;
-use crate::Path;
 use crate::Shown;
 use bits::first_difference;
+use path_form::End;
+use path_form::Path;
 use words::read16;
 ghost use mathlib.Core.Path.{_≡_};
 ghost use Prim.Native.Nat.{_+_, _*_, _≤_};
 ghost use lib.ListN.{length, take, drop};
 ghost use Rattle.paper.specs.Bits.{bitsOf, firstDifference};
 ghost use Rattle.paper.specs.Path.{lastLength};
-ghost use Rattle.path.specs.Places.{stepsIn, pathIn, PathStands};
+ghost use Rattle.path_form.specs.Places.{stepsIn, pathIn, PathStands};
 ghost use Rattle.path.specs.Taken.{parting, shownBy};
 
 // "k the last step's length", of m steps from `at` on

@@ -1,37 +1,17 @@
-// A path of a lookup or history proof, taken at its place in the lent bytes: its form, the root that it gives for a label, and
-// what its end shows. Nothing is copied but digests: a parsed path holds places and numbers, and the siblings stay where they lie.
+// A path of a lookup or history proof, taken at its place in the lent bytes: the root that it gives for a label, and what its end
+// shows.
 mod absence;
-mod ends;
-mod form;
 mod reader;
 mod root;
 
 use absence::shows;
-pub use form::parse;
+use path_form::parse;
 use reader::next_path;
 use reader::open;
 use root::root_of;
 use words::same;
 ghost use mathlib.Core.Path.{_≡_};
 ghost use Rattle.path.specs.Taken.{taken};
-
-// How a path ends, with the place of the end's fields, right behind its kind, and the epoch of its leaf.
-pub enum End {
-    This { at: usize, epoch: u32 },
-    Other { at: usize, epoch: u32 },
-    Off { at: usize },
-    Nothing,
-}
-
-// A parsed path: where its steps stand and how many there are, its end, the commitment of "this leaf", and the place behind it.
-pub struct Path {
-    pub good: bool,
-    pub steps: usize,
-    pub count: usize,
-    pub end: End,
-    pub commitment: [u8; 32],
-    pub next: usize,
-}
 
 // "End 0 shows presence, the others absence", where the rules of absence hold.
 pub enum Shown {

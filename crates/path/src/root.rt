@@ -1,13 +1,13 @@
 // The root that a path gives for a label: from the digest of its end upwards over its steps, the last one first. Each step is one
 // inner node, so m + 1 strings are hashed.
-use crate::End;
-use crate::Path;
 use bits::label_bit;
 use bits::prefix_of;
 use nodes::inner;
 use nodes::join;
 use nodes::leaf;
 use nodes::nothing;
+use path_form::End;
+use path_form::Path;
 use words::digest_at;
 use words::read16;
 ghost use mathlib.Core.Path.{_≡_};
@@ -19,7 +19,7 @@ ghost use Rattle.paper.specs.Bits.{bitsOf};
 ghost use Rattle.paper.specs.Strings.{leafString, innerString};
 ghost use Rattle.paper.specs.Tree.{digest};
 ghost use Rattle.paper.specs.Path.{stepNode, endNode, pathRoot};
-ghost use Rattle.path.specs.Places.{stepIn, stepsIn, endIn, pathIn, climbed, StepStands, EndStands, PathStands};
+ghost use Rattle.path_form.specs.Places.{stepIn, stepsIn, endIn, pathIn, climbed, StepStands, EndStands, PathStands};
 
 // "a step's prefix is the label's first bits", and the bit after it says on which side the digest from below stands.
 fn step_up(s: &[u8], at: usize, label: [u8; 32], below: &[u8; 32]) -> [u8; 32]

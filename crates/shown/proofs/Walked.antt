@@ -22,7 +22,7 @@ use Rattle.paper.proofs.Lists.{all-drop}
 use Rattle.paper.proofs.Proofs.{path-lawful}
 use Rattle.paper.proofs.Fits.{path-fits}
 use Rattle.paper.proofs.Counts.{nodes-length}
-use Rattle.path.specs.Parsed.{commitmentOf}
+use Rattle.path_form.specs.Parsed.{commitmentOf}
 use Rattle.path.specs.Taken.{absentBy, shownAt, takenOf, taken}
 use Rattle.path.specs.declared.Taken.{Taken}
 use Rattle.plan.specs.Asked.{placeOf}

@@ -2,7 +2,7 @@
 use crate::Front;
 use crate::items::items_after;
 use fields::After;
-use path::parse;
+use path_form::parse;
 use words::read16;
 use words::read32;
 use words::same;

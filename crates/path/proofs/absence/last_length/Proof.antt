@@ -1,7 +1,7 @@
 -- `path::absence::last_length`: the number at the last step.
 use borrow.Author.Needs.{needs}
 use mathlib.Core.Path.{sym, _∙_}
-use Rattle.path.proofs.Steps.{last-at}
+use Rattle.path_form.proofs.Steps.{last-at}
 use Rattle.path.proofs.absence.last_length.Statement.{statement}
 use Rattle.path.proofs.absence.last_length.Tie as tie
 

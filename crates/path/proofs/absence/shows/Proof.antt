@@ -5,9 +5,9 @@ use mathlib.Core.Path.{_≡_, sym, _∙_, subst}
 use Prim.Native.Nat.{_-_, _≤_}
 use lib.ListN.{length}
 use Rattle.paper.specs.Path.{absent}
-use Rattle.path.specs.Places.{EndStands}
-use Rattle.path.specs.declared.End.{End}
-use Rattle.path.proofs.Steps.{last-at}
+use Rattle.path_form.specs.Places.{EndStands}
+use Rattle.path_form.specs.declared.End.{End}
+use Rattle.path_form.proofs.Steps.{last-at}
 use Rattle.path.proofs.Parting.{other-shows, off-shows}
 use Rattle.path.proofs.absence.shows.Statement.{statement}
 use Rattle.path.proofs.absence.shows.Tie as tie

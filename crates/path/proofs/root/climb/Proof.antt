@@ -7,7 +7,7 @@ use lib.ListN.{drop}
 use Rattle.paper.specs.Bits.{bitsOf}
 use Rattle.paper.specs.Tree.{digest}
 use Rattle.paper.specs.Path.{stepNode}
-use Rattle.path.specs.Places.{stepIn, stepsIn, climbed}
+use Rattle.path_form.specs.Places.{stepIn, stepsIn, climbed}
 use Rattle.path.proofs.Climb.{climb-start, climb-step}
 use Rattle.path.proofs.root.climb.Statement.{statement}
 use Rattle.path.proofs.root.climb.Tie as tie

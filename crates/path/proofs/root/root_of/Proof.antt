@@ -3,7 +3,7 @@ use borrow.Author.Needs.{needs}
 use mathlib.Core.Path.{ap, _∙_}
 use lib.ListN.{drop}
 use Rattle.paper.specs.Bits.{bitsOf}
-use Rattle.path.specs.Places.{stepsIn, endIn, climbed}
+use Rattle.path_form.specs.Places.{stepsIn, endIn, climbed}
 use Rattle.path.proofs.Climb.{path-climb}
 use Rattle.path.proofs.root.root_of.Statement.{statement}
 use Rattle.path.proofs.root.root_of.Tie as tie

@@ -17,8 +17,8 @@ use Rattle.words.proofs.Slices.{bytewise}
 use Rattle.fields.specs.After.{afterOf, afterAt}
 use Rattle.fields.specs.declared.After.the-variants.{At, Nowhere}
 use Rattle.fields.proofs.Behind.{after-within, loop-on, loop-stop, loop-end}
-use Rattle.path.specs.Parsed.{pathOf, pathAt}
-use Rattle.path.specs.declared.Path.{Path}
+use Rattle.path_form.specs.Parsed.{pathOf, pathAt}
+use Rattle.path_form.specs.declared.Path.{Path}
 use Rattle.shown.proofs.layout.paths_after.Statement.{statement}
 use Rattle.shown.proofs.layout.paths_after.Tie as tie
 

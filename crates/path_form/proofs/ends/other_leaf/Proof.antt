@@ -1,15 +1,15 @@
--- `path::ends::other_leaf`: where the 68 bytes are there, their parts are the end's fields.
+-- `path_form::ends::other_leaf`: where the 68 bytes are there, their parts are the end's fields.
 use borrow.Author.Needs.{needs}
 use mathlib.Core.Path.{refl, sym, ap, _∙_}
 use lib.ListN.{take}
 use lib.Seq.{drop-drop}
 use Rattle.paper.specs.Bytes.{number}
 use Rattle.paper.specs.Fields.{endOf}
-use Rattle.path.proofs.Fields.{other-flat}
+use Rattle.path_form.proofs.Fields.{other-flat}
 use Rattle.words.proofs.Slices.{bytewise}
-use Rattle.path.proofs.Ending.{ended-yes, ended-short}
-use Rattle.path.proofs.ends.other_leaf.Statement.{statement}
-use Rattle.path.proofs.ends.other_leaf.Tie as tie
+use Rattle.path_form.proofs.Ending.{ended-yes, ended-short}
+use Rattle.path_form.proofs.ends.other_leaf.Statement.{statement}
+use Rattle.path_form.proofs.ends.other_leaf.Tie as tie
 
 sub-if1 : tie.Need-sub-if1
 sub-if1 c = search needs

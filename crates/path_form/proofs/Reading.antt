@@ -16,13 +16,13 @@ use Rattle.paper.specs.Fields.{stepField, rise, endField, pathBody, pathField}
 use Rattle.paper.specs.Path.{Step, End}
 use Rattle.paper.specs.Path as P
 use Rattle.paper.proofs.Lists.{and-left, and-right, all-drop}
-use Rattle.path.specs.Places.{stepsIn, rising}
-use Rattle.path.specs.Parsed.{countOf, countAt, noPath, pathOf, pathAt, endedOf, endedAt}
-use Rattle.path.specs.declared.Path.{Path}
-use Rattle.path.specs.declared.ends.Ended.{Ended}
+use Rattle.path_form.specs.Places.{stepsIn, rising}
+use Rattle.path_form.specs.Parsed.{countOf, countAt, noPath, pathOf, pathAt, endedOf, endedAt}
+use Rattle.path_form.specs.declared.Path.{Path}
+use Rattle.path_form.specs.declared.ends.Ended.{Ended}
 use Rattle.fields.proofs.Flat.{flat-yes, flat-short, flat-no, flat-got, within-flat, inside, outside}
-use Rattle.path.proofs.Fields.{steps-flat}
-use Rattle.path.proofs.Steps.{steps-length}
+use Rattle.path_form.proofs.Fields.{steps-flat}
+use Rattle.path_form.proofs.Steps.{steps-length}
 
 -- steps and the end that is read behind them
 abbrev pub withSteps : List Step → Read End → Read P.Path

@@ -6,8 +6,8 @@ use words::read16;
 ghost use mathlib.Core.Path.{_≡_};
 ghost use Prim.Native.Nat.{_≤_};
 ghost use lib.ListN.{length, drop};
-ghost use Rattle.path.specs.Parsed.{countAt, noPath, pathAt};
-ghost use Rattle.path.specs.Places.{rising};
+ghost use Rattle.path_form.specs.Parsed.{countAt, noPath, pathAt};
+ghost use Rattle.path_form.specs.Places.{rising};
 
 fn no_path() -> Path
     ensures { λ r. ⌜ r ≡ noPath ⌝ }

@@ -1,13 +1,13 @@
--- `path::ends::prefix_good`: bits past the length are zero exactly where the prefix is its own first bits.
+-- `path_form::ends::prefix_good`: bits past the length are zero exactly where the prefix is its own first bits.
 use borrow.Author.Needs.{needs}
 use borrow.Author.Tests.{ltb-true, ltb-false}
 use native.Mathlib.Omega.{arith}
 use mathlib.Core.Path.{sym, _∙_}
 use mathlib.Core.Logic.{inl, inr, ⊎-elim}
 use Rattle.words.proofs.Slices.{bytewise}
-use Rattle.path.proofs.Prefix.{prefix-long, prefix-tested}
-use Rattle.path.proofs.ends.prefix_good.Statement.{statement}
-use Rattle.path.proofs.ends.prefix_good.Tie as tie
+use Rattle.path_form.proofs.Prefix.{prefix-long, prefix-tested}
+use Rattle.path_form.proofs.ends.prefix_good.Statement.{statement}
+use Rattle.path_form.proofs.ends.prefix_good.Tie as tie
 
 read16-requires : tie.Need-read16-requires
 read16-requires c κs = search needs

@@ -1,4 +1,4 @@
--- `path::form::parse`: count, steps and end are read one behind the other, as the layout does.
+-- `path_form::form::parse`: count, steps and end are read one behind the other, as the layout does.
 use borrow.Author.Needs.{needs}
 use borrow.Author.Tests.{not-true, not-false}
 use native.Mathlib.Omega.{arith}
@@ -6,12 +6,12 @@ use mathlib.Core.Path.{_≡_, sym, ap, _∙_}
 use Prim.Native.Nat.{_+_, _*_, _≤_}
 use lib.ListN.{length}
 use Rattle.paper.specs.Bytes.{Bytewise}
-use Rattle.path.specs.Parsed.{pathAt}
+use Rattle.path_form.specs.Parsed.{pathAt}
 use Rattle.words.proofs.Slices.{bytewise}
-use Rattle.path.proofs.Steps.{rising-there}
-use Rattle.path.proofs.Reading.{Counted, pathWith, with-good, with-bad, path-countless, path-counted, path-falls, path-rest}
-use Rattle.path.proofs.form.parse.Statement.{statement}
-use Rattle.path.proofs.form.parse.Tie as tie
+use Rattle.path_form.proofs.Steps.{rising-there}
+use Rattle.path_form.proofs.Reading.{Counted, pathWith, with-good, with-bad, path-countless, path-counted, path-falls, path-rest}
+use Rattle.path_form.proofs.form.parse.Statement.{statement}
+use Rattle.path_form.proofs.form.parse.Tie as tie
 
 abbrev start : tie.After-count-at → tie.Start
 start c = c .before .before

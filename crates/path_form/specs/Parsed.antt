@@ -8,10 +8,10 @@ use Rattle.paper.specs.Layout.{Layout, Read, got, bad, within}
 use Rattle.paper.specs.Fields.{pathField}
 use Rattle.paper.specs.Path as P
 use Rattle.paper.specs.Path.{this, other, off, none}
-use Rattle.path.specs.declared.End.{End}
-use Rattle.path.specs.declared.End.the-variants.{This, Other, Off, Nothing}
-use Rattle.path.specs.declared.Path.{Path}
-use Rattle.path.specs.declared.ends.Ended.{Ended}
+use Rattle.path_form.specs.declared.End.{End}
+use Rattle.path_form.specs.declared.End.the-variants.{This, Other, Off, Nothing}
+use Rattle.path_form.specs.declared.Path.{Path}
+use Rattle.path_form.specs.declared.ends.Ended.{Ended}
 
 -- an end whose fields stand from a place on
 abbrev pub placed : ℕ → P.End → End

@@ -10,7 +10,7 @@ use Rattle.paper.specs.Bytes.{Bytes, Bytewise, number, same}
 use Rattle.paper.specs.Bits.{bitsOf, pack}
 use Rattle.paper.proofs.Lists.{all-take, all-drop}
 use Rattle.words.proofs.Pasted.{length-part}
-use Rattle.path.specs.Places.{prefixGood}
+use Rattle.path_form.specs.Places.{prefixGood}
 use Rattle.fields.proofs.Flat.{inside, outside}
 use Rattle.fields.proofs.Prefix.{zero-bits}
 

@@ -13,7 +13,7 @@ use borrow.Author.Tests.{le-leb, lt-leb, leb-true}
 use Rattle.paper.specs.Bytes.{Bytes, number}
 use Rattle.paper.proofs.Lists.{and-left}
 use Rattle.paper.specs.Path.{lastLength}
-use Rattle.path.specs.Places.{stepIn, stepsIn, ranged, rising}
+use Rattle.path_form.specs.Places.{stepIn, stepsIn, ranged, rising}
 use Rattle.fields.proofs.Flat.{and-false}
 
 pub steps-length : (m : ℕ) (t : Bytes) → length (stepsIn m t) ≡ m

@@ -14,7 +14,7 @@ use Rattle.paper.specs.Bits.{bitsOf}
 use Rattle.paper.specs.Layout.{block, fixed, within, seq, times, timesRead, such}
 use Rattle.paper.specs.Fields.{digestField, epochField, labelField, prefixField, stepField, riseFrom, rise, endOf}
 use Rattle.paper.specs.Path.{Step, End, this, other, off, none}
-use Rattle.path.specs.Places.{stepIn, stepsIn, ranged, prefixLength, prefixBytes, prefixGood}
+use Rattle.path_form.specs.Places.{stepIn, stepsIn, ranged, prefixLength, prefixBytes, prefixGood}
 use Rattle.fields.proofs.Flat.{Flat, and-true, and-false, flat-as, flat-map, flat-then, block-flat, within-flat, seq-flat, led-flat, view-flat, such-flat, epoch-flat}
 
 digest-flat : Flat (digestField .read) 32 (λ s. true) (take 32)

@@ -1,4 +1,4 @@
--- `path::ends::end_at`: the kind says which fields follow.
+-- `path_form::ends::end_at`: the kind says which fields follow.
 use borrow.Author.Needs.{needs}
 use native.Mathlib.Omega.{arith}
 use mathlib.Core.Path.{_≡_, sym, _∙_}
@@ -6,11 +6,11 @@ use Prim.Native.Nat.{ℕ, _+_, _<_, _≤_}
 use lib.ListN.{getD}
 use Rattle.paper.specs.Bytes.{Bytewise}
 use Rattle.paper.specs.Fields.{endOf, endField}
-use Rattle.path.specs.Parsed.{endedAt}
+use Rattle.path_form.specs.Parsed.{endedAt}
 use Rattle.words.proofs.Slices.{bytewise}
-use Rattle.path.proofs.Ending.{kind-missing, kind-good, kind-bad, none-yes, none-no}
-use Rattle.path.proofs.ends.end_at.Statement.{statement}
-use Rattle.path.proofs.ends.end_at.Tie as tie
+use Rattle.path_form.proofs.Ending.{kind-missing, kind-good, kind-bad, none-yes, none-no}
+use Rattle.path_form.proofs.ends.end_at.Statement.{statement}
+use Rattle.path_form.proofs.ends.end_at.Tie as tie
 
 no-end-requires : tie.Need-no-end-requires
 no-end-requires c κs = search needs

@@ -9,8 +9,8 @@ ghost use mathlib.Core.Path.{_≡_};
 ghost use Prim.Native.Nat.{ℕ, _+_, _≤_};
 ghost use lib.ListN.{length, drop};
 ghost use Rattle.paper.specs.Fields.{endOf, endField};
-ghost use Rattle.path.specs.Parsed.{endedAt, noEnd};
-ghost use Rattle.path.specs.Places.{prefixGood};
+ghost use Rattle.path_form.specs.Parsed.{endedAt, noEnd};
+ghost use Rattle.path_form.specs.Places.{prefixGood};
 
 // An end as it was read from some place on, and the place behind it.
 pub struct Ended {

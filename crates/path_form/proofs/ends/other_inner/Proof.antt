@@ -1,13 +1,13 @@
--- `path::ends::other_inner`: where the 98 bytes are there and the prefix is good, their parts are the end's fields.
+-- `path_form::ends::other_inner`: where the 98 bytes are there and the prefix is good, their parts are the end's fields.
 use borrow.Author.Needs.{needs}
 use borrow.Author.Tests.{not-true, not-false}
 use mathlib.Core.Path.{sym, _∙_}
 use Rattle.paper.specs.Fields.{endOf}
-use Rattle.path.proofs.Fields.{off-flat}
+use Rattle.path_form.proofs.Fields.{off-flat}
 use Rattle.words.proofs.Slices.{bytewise}
-use Rattle.path.proofs.Ending.{ended-yes, ended-short, ended-no}
-use Rattle.path.proofs.ends.other_inner.Statement.{statement}
-use Rattle.path.proofs.ends.other_inner.Tie as tie
+use Rattle.path_form.proofs.Ending.{ended-yes, ended-short, ended-no}
+use Rattle.path_form.proofs.ends.other_inner.Statement.{statement}
+use Rattle.path_form.proofs.ends.other_inner.Tie as tie
 
 sub-if1 : tie.Need-sub-if1
 sub-if1 c = search needs

@@ -1,4 +1,4 @@
--- `path::form::rises`: the lengths passed were in their ranges, so the rest decides.
+-- `path_form::form::rises`: the lengths passed were in their ranges, so the rest decides.
 use borrow.Author.Needs.{needs}
 use borrow.Author.Tests.{ltb-true, ltb-false}
 use native.Mathlib.Omega.{arith}
@@ -6,10 +6,10 @@ use mathlib.Core.Path.{_≡_, sym, _∙_}
 use mathlib.Core.Logic.{inl, inr, ⊎-elim}
 use Prim.Native.Nat.{_+_, _-_, _*_, _≤_}
 use lib.ListN.{length, drop, length-drop}
-use Rattle.path.specs.Places.{stepsIn, ranged, rising}
-use Rattle.path.proofs.Steps.{rising-room, rising-cut, rises-end, rises-stop, rises-on}
-use Rattle.path.proofs.form.rises.Statement.{statement}
-use Rattle.path.proofs.form.rises.Tie as tie
+use Rattle.path_form.specs.Places.{stepsIn, ranged, rising}
+use Rattle.path_form.proofs.Steps.{rising-room, rising-cut, rises-end, rises-stop, rises-on}
+use Rattle.path_form.proofs.form.rises.Statement.{statement}
+use Rattle.path_form.proofs.form.rises.Tie as tie
 
 abbrev Inv-loop : tie.InvT-loop
 Inv-loop s at m low₀ high₀ i₀ low high i =

@@ -1,4 +1,4 @@
--- `path::form::count_at`: the tests are those of the count's layout.
+-- `path_form::form::count_at`: the tests are those of the count's layout.
 use borrow.Author.Needs.{needs}
 use borrow.Author.Tests.{ltb-true, ltb-false}
 use native.Mathlib.Omega.{arith}
@@ -7,9 +7,9 @@ use mathlib.Core.Logic.{⊎-elim}
 use Prim.Native.Nat.{_+_, _<_}
 use lib.ListN.{length}
 use Rattle.words.proofs.Slices.{bytewise}
-use Rattle.path.proofs.Reading.{count-short, count-high, count-read}
-use Rattle.path.proofs.form.count_at.Statement.{statement}
-use Rattle.path.proofs.form.count_at.Tie as tie
+use Rattle.path_form.proofs.Reading.{count-short, count-high, count-read}
+use Rattle.path_form.proofs.form.count_at.Statement.{statement}
+use Rattle.path_form.proofs.form.count_at.Tie as tie
 
 sub-if2 : tie.Need-sub-if2
 sub-if2 c = search needs

@@ -12,9 +12,9 @@ use Rattle.paper.specs.Bits.{Bits, bitsOf, pack}
 use Rattle.paper.specs.Tree.{digest}
 use Rattle.paper.specs.Path.{Step, stepNode, this, other, off, none}
 use Rattle.paper.specs.Path as P
-use Rattle.path.specs.declared.End.{End}
-use Rattle.path.specs.declared.End.the-variants.{This, Other, Off, Nothing}
-use Rattle.path.specs.declared.Path.{Path}
+use Rattle.path_form.specs.declared.End.{End}
+use Rattle.path_form.specs.declared.End.the-variants.{This, Other, Off, Nothing}
+use Rattle.path_form.specs.declared.Path.{Path}
 
 -- "m steps of prefix length (2) and sibling digest (32)": the first step of some bytes, and the first m
 abbrev pub stepIn : Bytes → Step

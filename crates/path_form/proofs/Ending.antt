@@ -14,10 +14,10 @@ use Rattle.paper.specs.Fields.{endOf, endField}
 use Rattle.paper.specs.Path.{End}
 use Rattle.paper.proofs.Lists.{all-drop}
 use Rattle.words.proofs.Number.{number-one}
-use Rattle.path.specs.Parsed.{placed, commitmentOf, noEnd, endedAt}
-use Rattle.path.specs.declared.End.the-variants.{Nothing}
+use Rattle.path_form.specs.Parsed.{placed, commitmentOf, noEnd, endedAt}
+use Rattle.path_form.specs.declared.End.the-variants.{Nothing}
 use Rattle.fields.proofs.Flat.{Flat, flat-yes, flat-short, flat-no, within-flat}
-use Rattle.path.proofs.Fields.{none-flat}
+use Rattle.path_form.proofs.Fields.{none-flat}
 
 -- ---- an end of a fixed size
 
