@@ -11,7 +11,7 @@ use Rattle.paper.specs.Bytes.{Bytes}
 use Rattle.paper.specs.Bits.{bitsOf, lcp, firstDifference}
 use Rattle.paper.specs.Audit.{AuditRecord, recordKey}
 use Rattle.paper.proofs.Bytes.{bitsOf-length}
-use Rattle.words.proofs.Pasted.{length-part}
+use Rattle.ranges.proofs.Slices.{length-part}
 use Rattle.audit_form.specs.Places.{labelAt, keyAt, recordBy, recordAt, recordsAt}
 
 -- whatever its kind, a record has its key

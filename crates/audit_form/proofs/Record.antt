@@ -19,8 +19,8 @@ use Rattle.paper.specs.Audit.{unchanged, fresh, recordKind, recordOf, leafField
 use Rattle.paper.proofs.Lists.{true-or-false, not-both, and-left, and-right, all-take, all-drop}
 use Rattle.paper.proofs.Bytes.{same-eq, eq-same, number-be, be-number, number-lt, bitsOf-length, pack-bitsOf}
 use Rattle.words.proofs.Number.{number-one}
-use Rattle.words.proofs.Compare.{not-same, zeros-same}
-use Rattle.words.proofs.Pasted.{length-part}
+use Rattle.ranges.proofs.Compare.{not-same, zeros-same}
+use Rattle.ranges.proofs.Slices.{length-part}
 use Rattle.fields.proofs.Prefix.{zero-bits}
 use Rattle.audit_form.specs.Places.{labelAt, keyAt, recordBy, recordAt, Formed}
 use Rattle.audit_form.proofs.At.{ReadAt, block-at, fixed-at, within-at, seq-at, led-at, view-at, such-at}

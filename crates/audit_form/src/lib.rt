@@ -2,10 +2,10 @@
 // next one a place in the bytes, and no more.
 use bits::prefix_of;
 use fields::After;
-use words::all_zero;
+use ranges::all_zero;
+use ranges::same;
 use words::read16;
 use words::read32;
-use words::same;
 ghost use mathlib.Core.Path.{_≡_};
 ghost use Prim.Native.Nat.{_+_, _≤_};
 ghost use lib.ListN.{length, drop};

@@ -11,7 +11,7 @@ use bits::prefix_of;
 use nodes::inner;
 use nodes::leaf;
 use nodes::nothing;
-use words::digest_at;
+use ranges::digest_at;
 use words::read16;
 use words::read32;
 ghost use mathlib.Core.Path.{_≡_};

@@ -11,10 +11,10 @@ use Rattle.paper.specs.Numbers.{wide}
 use Rattle.paper.specs.Bytes.{Bytes, number}
 use Rattle.paper.specs.Bits.{bitsOf, firstDifference}
 use Rattle.paper.specs.Audit.{AuditRecord, before?, inOrder, recordRule, commitmentIn, Which, ofOld}
-use Rattle.words.proofs.Pasted.{length-part}
+use Rattle.ranges.proofs.Slices.{length-part}
 use Rattle.bit_order.proofs.Cut.{before-cut}
 use Rattle.audit_form.specs.Places.{labelAt, keyAt, recordBy, recordAt, recordsAt}
-use Rattle.words.proofs.Compare.{zeros-same}
+use Rattle.ranges.proofs.Compare.{zeros-same}
 use Rattle.audit_form.proofs.Places.{record-key, label-bits, labels-differ}
 
 -- two records in order: each key goes on past what the labels share, and there the second has a 1

@@ -3,7 +3,7 @@
 use audit_form::label_at;
 use bits::first_difference;
 use bits::label_bit;
-use words::all_zero;
+use ranges::all_zero;
 use words::read16;
 use words::read32;
 ghost use mathlib.Core.Path.{_≡_};

@@ -1,8 +1,8 @@
 // A batch of updates, each of 162 bytes: "a record without version and epoch".
 use names::is_name;
+use ranges::same;
 use record::filled_at;
 use table::filled;
-use words::same;
 ghost use mathlib.Core.Path.{_≡_};
 ghost use Prim.Native.Nat.{ℕ, suc, _*_, _≤_, _<_};
 ghost use lib.ListN.{length, drop};

@@ -14,8 +14,8 @@ use Rattle.paper.specs.Shows.{Item, itemField}
 use Rattle.paper.specs.Table.{Record}
 use Rattle.paper.specs.Write.{versionsBy, itemOf, lastItem}
 use Rattle.paper.proofs.Bytes.{be-length}
+use Rattle.paper.proofs.Pasted.{pasted-none}
 use Rattle.words.proofs.Number.{pasted-byte}
-use Rattle.words.proofs.Pasted.{pasted-none}
 use Rattle.record.specs.Places.{recordIn, recordAt, recordsIn, Stands}
 use Rattle.gather.proofs.Leaves.{key-few}
 use Rattle.table.specs.Index.{lastWhere}

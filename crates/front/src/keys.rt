@@ -1,9 +1,9 @@
 // The keys of a name's versions by an epoch, from a record on: "key length, key, opening" for each. A history has those of all its
 // records, a lookup that of the last.
 use own::is_own;
+use ranges::put;
 use record::key_at;
 use record::opening_at;
-use words::put;
 ghost use mathlib.Core.Path.{_≡_};
 ghost use Prim.Native.Nat.{ℕ, _+_, _<_, _≤_};
 ghost use lib.ListN.{length};

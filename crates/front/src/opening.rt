@@ -1,6 +1,6 @@
 // "Each proof begins "VKD", 16-bit version 1, kind 1 (1 lookup, 2 history, 3 audit), then the 100 bytes of a head after its 0x03."
-use words::digest_at;
-use words::put;
+use ranges::digest_at;
+use ranges::put;
 use words::write16;
 use words::write32;
 ghost use mathlib.Core.Path.{_≡_};

@@ -11,7 +11,7 @@ use Rattle.paper.specs.Bits.{bitsOf}
 use Rattle.paper.specs.Strings.{Node, leaf}
 use Rattle.paper.specs.Level.{entryLeaf, leavesIn}
 use Rattle.paper.proofs.Bytes.{be-length, number-be}
-use Rattle.words.proofs.Pasted.{pasted-pasted}
+use Rattle.paper.proofs.Pasted.{pasted-pasted}
 use Rattle.bit_order.proofs.Leaves.{leaves-none, leaves-pasted}
 use Rattle.gather.specs.Gathered.{Gained}
 

@@ -3,12 +3,12 @@
 use bits::marker_of;
 use labels::commitment;
 use labels::label;
+use ranges::put;
 use record::epoch_at;
 use record::key_at;
 use record::name_at;
 use record::opening_at;
 use record::version_at;
-use words::put;
 use words::write32;
 ghost use mathlib.Core.Bool.{true, false};
 ghost use mathlib.Core.List.{[], _∷_};

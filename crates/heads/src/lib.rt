@@ -1,8 +1,8 @@
 // The digest of a head, from its parts and where a proof opens it. An array is made of the string's
 // first byte alone, and the other parts are laid over it, one right behind the other, from place 1 on.
+use ranges::digest_at;
+use ranges::put;
 use sha256::sha256;
-use words::digest_at;
-use words::put;
 use words::read32;
 use words::write32;
 ghost use mathlib.Core.Path.{_≡_};

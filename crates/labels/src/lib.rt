@@ -1,8 +1,8 @@
 // The digests that stand for a name's versions and markers, and for a key. An array is made of the
 // string's first byte alone and has room for the longest name or key; the other parts are laid over
 // it, one right behind the other, from place 1 on, and its front is hashed.
+use ranges::put;
 use sha256::sha256;
-use words::put;
 use words::write16;
 ghost use mathlib.Core.Path.{_≡_};
 ghost use Prim.Native.Nat.{_≤_};

@@ -123,8 +123,8 @@ fn commitment(n: usize)
     requires { ⌜ n ≤ 64 ⌝ }
 {
     let mut key = [0u8; 64];
-    words::put(&mut key, 0, &sample(4, 1));
-    words::put(&mut key, 32, &sample(5, 1));
+    ranges::put(&mut key, 0, &sample(4, 1));
+    ranges::put(&mut key, 32, &sample(5, 1));
     show(
         b"commitment ",
         &labels::commitment(&sample(6, 1), &key[0..n]),
@@ -151,14 +151,14 @@ fn copy(at: usize, from: usize)
     requires { ⌜ (at ≤ 32) × (from ≤ 32) ⌝ }
 {
     let mut bytes = [0xEEu8; 64];
-    words::put(&mut bytes, at, &sample(7, 1));
+    ranges::put(&mut bytes, at, &sample(7, 1));
     show(b"put ", &bytes);
-    show(b"digest_at ", &words::digest_at(&bytes, from));
+    show(b"digest_at ", &ranges::digest_at(&bytes, from));
 }
 
 fn compare(a: &[u8], b: &[u8]) {
-    show_number(b"same ", words::same(a, b) as u64);
-    show_number(b"all_zero ", words::all_zero(a) as u64);
+    show_number(b"same ", ranges::same(a, b) as u64);
+    show_number(b"all_zero ", ranges::all_zero(a) as u64);
 }
 
 fn comparisons() {

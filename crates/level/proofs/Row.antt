@@ -10,7 +10,7 @@ use borrow.Author.Tests.{eqb-true, leb-true}
 use Rattle.paper.specs.Bytes.{Bytes, pasted}
 use Rattle.paper.specs.Level.{entriesWithin}
 use Rattle.paper.proofs.Lists.{and-left, and-right}
-use Rattle.words.proofs.Pasted.{pasted-front}
+use Rattle.paper.proofs.Pasted.{pasted-front}
 
 -- the entries stand at its start
 pub copied : (row entries : Bytes) → take (length entries) (pasted row 0 entries) ≡ entries

@@ -4,7 +4,7 @@ use crate::path::path_over;
 use crate::root::root_of;
 use bounds::entries_within;
 use paper::TreeAnswer;
-use words::put;
+use ranges::put;
 ghost use mathlib.Core.Path.{_≡_};
 ghost use Rattle.paper.specs.Level as L;
 

@@ -11,7 +11,7 @@ use Rattle.paper.specs.Labelling.{plain}
 use Rattle.paper.specs.Lookup.{checkLookup}
 use Rattle.paper.specs.Program.{line, programLine}
 use Rattle.paper.specs.declared.LookupAnswer.the-variants.{Refused}
-use Rattle.words.proofs.Pasted.{part-is, rest-is}
+use Rattle.ranges.proofs.Slices.{part-is, rest-is}
 
 -- too long, or too short for head and name
 pub input-refused : (b : Bytes) → (65536 < length b) ⊎ (length b < 33 + getD b 32 0) → programLine b ≡ line (Refused INPUT)

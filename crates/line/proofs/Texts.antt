@@ -7,7 +7,7 @@ use lib.ListN.{length, length-append}
 use Rattle.paper.specs.Bytes.{Bytes, zeros}
 use Rattle.paper.specs.Program.{decimal, versionWord, epochWord, digestsWord, refusedWord, lineEnd, accepted, line}
 use Rattle.paper.specs.declared.LookupAnswer.the-variants.{Refused}
-use Rattle.words.proofs.Pasted.{pasted-none, pasted-pasted, pasted-reach}
+use Rattle.paper.proofs.Pasted.{pasted-none, pasted-pasted, pasted-reach}
 use Rattle.line.specs.declared.Text.{Text}
 use Rattle.line.specs.Written.{empty, behind, textOf}
 

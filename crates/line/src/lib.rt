@@ -2,8 +2,8 @@
 // The line grows from the front of a text of 64 bytes, which holds the longest.
 use lookup::check_lookup;
 use paper::LookupAnswer;
+use ranges::put;
 use shown::INPUT;
-use words::put;
 ghost use mathlib.Core.Path.{_≡_};
 ghost use Prim.Native.Nat.{_+_, _≤_};
 ghost use lib.ListN.{length};

@@ -21,7 +21,7 @@ use Rattle.paper.specs.declared.LookupAnswer.{LookupAnswer}
 use Rattle.paper.specs.declared.LookupAnswer.the-variants as L
 use Rattle.paper.specs.Answer.{lookupNumber}
 use Rattle.paper.proofs.Accepted.{lookup-told}
-use Rattle.words.proofs.Pasted.{part-is}
+use Rattle.ranges.proofs.Slices.{part-is}
 use Rattle.words.proofs.Number.{number-one}
 use Rattle.shown.specs.Form.{frontAt, headIn, firstPath, ItemStands}
 use Rattle.fields.specs.declared.After.the-variants.{Nowhere}

@@ -1,8 +1,8 @@
 // The digests of a tree's nodes, a function for each of document 01's strings. An array is made of the
 // string's first byte alone, and the other parts are laid over it, one right behind the other, from
 // place 1 on.
+use ranges::put;
 use sha256::sha256;
-use words::put;
 use words::write16;
 use words::write32;
 ghost use mathlib.Core.Path.{_≡_};

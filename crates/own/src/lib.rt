@@ -1,8 +1,8 @@
 // A name's records by an epoch: "A lookup at epoch t answers the name's last version with epoch at most t, or version 0; a history
 // answers all its versions by then." The counted records are passed over one by one.
+use ranges::same;
 use record::epoch_at;
 use record::name_at;
-use words::same;
 ghost use mathlib.Core.Path.{_≡_};
 ghost use Prim.Native.Nat.{ℕ, _<_};
 ghost use lib.ListN.{length};

@@ -1,13 +1,59 @@
--- What a string laid over another leaves before it and where it lies. Assumes nothing.
+-- Laws of a string laid over another: what it leaves before it, where it lies and behind it. Assumes nothing.
 use mathlib.Core.Path.{_≡_, refl, sym, ap, _∙_}
 use mathlib.Core.Logic.{_⊎_, inl, inr}
-use mathlib.Core.List.{_++_, append-assoc}
+use mathlib.Core.List.{[], _∷_, _++_, append-nil, append-assoc}
 use Prim.Native.Nat.{ℕ, _+_, _-_, _≤_, _<_}
+use native.Mathlib.Nat.{add-zero}
+use native.Mathlib.Numerals.{add-one}
 use native.Mathlib.Omega.{arith}
-use lib.ListN.{length, take, drop, getD, length-append, length-drop, List·getD-append}
-use lib.Seq.{take-append-le, drop-append-le, take-at, drop-at, length-take-le, take-take, getD-take, getD-drop, getD-append-add}
+use lib.ListN.{length, take, drop, set, getD, length-append, length-take, length-drop, take-append-drop, List·getD-append}
+use lib.Seq.{take-append-le, drop-append-le, drop-append-add, take-at, drop-at, drop-drop, drop-length, length-take-le, take-take, take-length, getD-take, getD-drop, getD-append-add, set-split, paste}
 use Rattle.paper.specs.Bytes.{Bytes, Bytewise, pasted}
 use Rattle.paper.proofs.Lists.{all-append, all-take, all-drop, drop-take}
+
+-- a copy of all of x
+pub paste-all : (o : Bytes) (a : ℕ) (x : Bytes) (i : ℕ) → i ≡ length x → paste o a x i ≡ pasted o a x
+unfolding pasted
+paste-all o a x i h = rw (h, take-length x) (append-assoc (take a o) x (drop (a + length x) o))
+
+-- a string laid over nothing, over one place, over the end, and right behind what is there
+pub pasted-none : (o : Bytes) (a : ℕ) → pasted o a [] ≡ o
+unfolding pasted
+pasted-none o a = rw (add-zero a) (take-append-drop a o)
+
+pub pasted-one : (o : Bytes) (a b : ℕ) → a < length o → set o a b ≡ pasted o a (b ∷ [])
+unfolding pasted
+pasted-one o a b h = rw (add-one a) (set-split o a b h)
+
+pub pasted-end : (o : Bytes) (a : ℕ) (x : Bytes) → a + length x ≡ length o → pasted o a x ≡ take a o ++ x
+unfolding pasted
+pasted-end o a x h = rw (h, drop-length o, append-nil x)
+
+pub pasted-front : (o : Bytes) (a : ℕ) (x : Bytes) → a ≤ length o → take (a + length x) (pasted o a x) ≡ take a o ++ x
+unfolding pasted
+pasted-front o a x h =
+    let e : length (take a o ++ x) ≡ a + length x = omega (arith, length-append (take a o) x, length-take-le a o h) in
+    rw (← (append-assoc (take a o) x (drop (a + length x) o))) (take-at (take a o ++ x) (drop (a + length x) o) (a + length x) e)
+
+pub pasted-at : (f r x : Bytes) (a : ℕ) → length f ≡ a → pasted (f ++ r) a x ≡ f ++ (x ++ drop (length x) r)
+unfolding pasted
+pasted-at f r x a h = rw (take-at f r a h, ← h, drop-append-add f r (length x))
+
+pub pasted-pasted : (o : Bytes) (a : ℕ) (x y : Bytes) → a ≤ length o → pasted (pasted o a x) (a + length x) y ≡ pasted o a (x ++ y)
+unfolding pasted
+pasted-pasted o a x y h =
+    let e : length (take a o ++ x) ≡ a + length x = omega (arith, length-append (take a o) x, length-take-le a o h) in
+    let k : a + length x + length y ≡ a + length (x ++ y) = omega (arith, length-append x y) in
+    ap (λ l. pasted l (a + length x) y) (sym (append-assoc (take a o) x (drop (a + length x) o)))
+    ∙ pasted-at (take a o ++ x) (drop (a + length x) o) y (a + length x) e
+    ∙ rw (drop-drop (length y) (a + length x) o, k) (simp append-assoc)
+
+-- a buffer holds what was laid over it
+pub pasted-reach : (o : Bytes) (a : ℕ) (x : Bytes) → a ≤ length o → a + length x ≤ length (pasted o a x)
+unfolding pasted
+pasted-reach o a x h = simp (length-append, length-take) (omega arith)
+
+-- ---- where it ends inside the buffer
 
 module _ (d : Bytes) (at : ℕ) (s : Bytes) (fits : at + length s ≤ length d) where
   front : length (take at d) ≡ at
@@ -34,13 +80,6 @@ module _ (d : Bytes) (at : ℕ) (s : Bytes) (fits : at + length s ≤ length d) 
 
   pub part-at : take (length s) (drop at (pasted d at s)) ≡ s
   part-at = ap (take (length s)) pasted-behind ∙ take-at s (drop (at + length s) d) (length s) refl
-
-  -- all up to its end
-  pub part-through : take (at + length s) (pasted d at s) ≡ take at d ++ s
-  unfolding pasted
-  part-through =
-      sym (ap (take (at + length s)) (append-assoc (take at d) s (drop (at + length s) d)))
-      ∙ take-at (take at d ++ s) (drop (at + length s) d) (at + length s) (omega (arith, length-append (take at d) s, front))
 
   pub pasted-bytes : Bytewise d → Bytewise s → Bytewise (pasted d at s)
   unfolding pasted

@@ -28,7 +28,7 @@ use Rattle.paper.proofs.Verdicts.{Hold, FirstFails, verdict-cases}
 use Rattle.paper.proofs.Layouts.{times-lawful, parse-bytes, bytes-parse}
 use Rattle.paper.proofs.Proofs.{record-lawful}
 use Rattle.paper.proofs.Fits.{digest-wide}
-use Rattle.paper.proofs.Pasted.{pasted-length, part-before, part-through, pasted-bytes}
+use Rattle.paper.proofs.Pasted.{pasted-length, pasted-front, part-before, pasted-bytes}
 use Rattle.paper.proofs.Shape.{by-epoch-append, published-shape, new-epochs}
 use Rattle.paper.proofs.Kept.{Kept, record-bytewise, times-append, within-same, records-same, kept-at-start}
 use Rattle.paper.proofs.Success.{Success, success, Placed, placed, head-new}
@@ -84,7 +84,7 @@ module _ (lab : Labelling) (records heads : Bytes) (state : State) (kept : Kept 
         let n = state .count + length more in
         let e : n * recordSize ≡ state .count * recordSize + length bytes = omega (arith, lie .size, lie .count) in
         let w : take (n * recordSize) records′ ≡ timesBytes (recordField .bytes) (rs ++ more) =
-        ap (λ k. take k records′) e ∙ part-through records (state .count * recordSize) bytes (lie .records-room) ∙ ap (λ l. l ++ bytes) old-bytes ∙ sym (times-append rs more) in
+        ap (λ k. take k records′) e ∙ pasted-front records (state .count * recordSize) bytes (omega (arith, lie .records-room)) ∙ ap (λ l. l ++ bytes) old-bytes ∙ sym (times-append rs more) in
         let f : times n recordField .Fits (rs ++ more) = (length-append rs more ∙ ap (λ k. k + length more) (kept .size), all-append _ rs more (kept .fits) (lie .fit)) in
         ap (parse (times n recordField)) w ∙ parse-bytes (times-lawful n record-lawful) (rs ++ more) f
 

@@ -16,7 +16,7 @@ use Rattle.paper.specs.Path.{Step, End, stepNode, endNode, pathTop}
 use Rattle.paper.proofs.Bytes.{bitsOf-length, pack-bitsOf}
 use Rattle.paper.proofs.Lists.{all-take, all-drop}
 use Rattle.paper.proofs.Fits.{Wide}
-use Rattle.words.proofs.Pasted.{length-part}
+use Rattle.ranges.proofs.Slices.{length-part}
 use Rattle.nodes.specs.Join.{joined}
 use Rattle.path_form.specs.Places.{stepIn, stepsIn, endIn, climbed, StepStands, EndStands}
 use Rattle.path_form.specs.declared.End as E

@@ -16,7 +16,7 @@ use Rattle.paper.specs.Path.{pathRoot}
 use Rattle.paper.specs.Path as P
 use Rattle.paper.proofs.Lists.{and-left, and-right, all-take, all-drop, not-both}
 use Rattle.paper.proofs.Layouts.{then-got}
-use Rattle.words.proofs.Pasted.{length-part}
+use Rattle.ranges.proofs.Slices.{length-part}
 use Rattle.path_form.specs.Places.{stepsIn, ranged, prefixLength, prefixBytes, prefixGood, endIn, pathIn, EndStands, PathStands}
 use Rattle.path_form.specs.Parsed.{placed, pathOf, pathAt}
 use Rattle.path.specs.Taken.{shownBy, takenOf, taken}

@@ -15,7 +15,7 @@ use Rattle.paper.specs.Path.{sameBits, absent, other, off}
 use Rattle.paper.proofs.Lists.{true-or-false, and-left, and-right, not-both}
 use Rattle.paper.proofs.Bits.{pfx-take, pfx-trans, starts-pfx, pfx-starts, lcp-comm}
 use Rattle.paper.proofs.Bytes.{bitsOf-length}
-use Rattle.words.proofs.Pasted.{length-part, rest-is}
+use Rattle.ranges.proofs.Slices.{length-part, rest-is}
 use Rattle.bits.proofs.Lcp.{both-ways, shorter, first-bits}
 use Rattle.path_form.specs.Places.{endIn, EndStands}
 use Rattle.path.specs.Taken.{absentBy, shownAt, parting}

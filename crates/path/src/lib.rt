@@ -6,10 +6,10 @@ mod root;
 
 use absence::shows;
 use path_form::parse;
+use ranges::same;
 use reader::next_path;
 use reader::open;
 use root::root_of;
-use words::same;
 ghost use mathlib.Core.Path.{_≡_};
 ghost use Rattle.path.specs.Taken.{taken};
 

@@ -8,7 +8,7 @@ use nodes::leaf;
 use nodes::nothing;
 use path_form::End;
 use path_form::Path;
-use words::digest_at;
+use ranges::digest_at;
 use words::read16;
 ghost use mathlib.Core.Path.{_≡_};
 ghost use Prim.Native.Nat.{ℕ, _+_, _*_, _≤_, _<_};

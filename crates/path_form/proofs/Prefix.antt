@@ -9,7 +9,7 @@ use lib.Seq.{drop-drop}
 use Rattle.paper.specs.Bytes.{Bytes, Bytewise, number, same}
 use Rattle.paper.specs.Bits.{bitsOf, pack}
 use Rattle.paper.proofs.Lists.{all-take, all-drop}
-use Rattle.words.proofs.Pasted.{length-part}
+use Rattle.ranges.proofs.Slices.{length-part}
 use Rattle.path_form.specs.Places.{prefixGood}
 use Rattle.fields.proofs.Flat.{inside, outside}
 use Rattle.fields.proofs.Prefix.{zero-bits}

@@ -1,10 +1,10 @@
 // The form of a path's end: "end kind (1)", and the fields of each kind. An end holds numbers and the place of its fields.
 use crate::End;
 use bits::prefix_of;
-use words::digest_at;
+use ranges::digest_at;
+use ranges::same;
 use words::read16;
 use words::read32;
-use words::same;
 ghost use mathlib.Core.Path.{_≡_};
 ghost use Prim.Native.Nat.{ℕ, _+_, _≤_};
 ghost use lib.ListN.{length, drop};

@@ -17,7 +17,7 @@ use Rattle.paper.specs.Layout.{timesBytes}
 use Rattle.paper.specs.Fields.{pathField}
 use Rattle.paper.specs.Table.{holds}
 use Rattle.paper.specs.Shows as P
-use Rattle.words.proofs.Pasted.{pasted-none}
+use Rattle.paper.proofs.Pasted.{pasted-none}
 use Rattle.table.proofs.Own.{every-snoc}
 use Rattle.plan.specs.Asked.{placeOf, asked}
 use Rattle.plan.specs.declared.Asked.{Asked}

@@ -10,7 +10,7 @@ use paper::HistoryAnswer;
 use paper::LookupAnswer;
 use paper::State;
 use paper::WriteAnswer;
-use words::same;
+use ranges::same;
 use write_audit::write_audit;
 use write_proof::write_history;
 use write_proof::write_lookup;

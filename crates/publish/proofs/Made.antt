@@ -10,7 +10,7 @@ use Rattle.paper.specs.Layout.{view, seq, such, within, block}
 use Rattle.paper.specs.Table.{Update, filledField, recordField, updateField}
 use Rattle.paper.proofs.Bytes.{be-length}
 use Rattle.paper.proofs.Kept.{filled-length}
-use Rattle.words.proofs.Pasted.{pasted-pasted}
+use Rattle.paper.proofs.Pasted.{pasted-pasted}
 use Rattle.publish.specs.Weighed.{recordOver}
 
 -- four parts, one behind the other

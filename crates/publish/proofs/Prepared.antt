@@ -18,7 +18,7 @@ use Rattle.paper.specs.Publish.{newRecord}
 use Rattle.paper.proofs.Lists.{true-or-false, not-both, all-in, all-append, every-all, all-every, in-map}
 use Rattle.paper.proofs.Kept.{record-length, times-append}
 use Rattle.paper.proofs.Success.{record-new}
-use Rattle.words.proofs.Pasted.{pasted-front}
+use Rattle.paper.proofs.Pasted.{pasted-front}
 use Rattle.record.specs.Places.{recordsIn}
 use Rattle.batch.specs.Places.{updateAt, updatesIn}
 use Rattle.batch.proofs.Places.{updates-snoc, updates-in}

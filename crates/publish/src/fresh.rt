@@ -1,8 +1,8 @@
 // The records that a batch becomes, laid out before anything is written to the table.
 
 use batch::name_in;
+use ranges::put;
 use table::last_version;
-use words::put;
 use words::write16;
 use words::write32;
 ghost use mathlib.Core.Path.{_≡_};

@@ -2,7 +2,7 @@
 use crate::weigh::weigh;
 use paper::PublishAnswer;
 use paper::State;
-use words::put;
+use ranges::put;
 ghost use mathlib.Core.Path.{_≡_};
 ghost use Rattle.paper.specs.Labelling.{plain};
 ghost use Rattle.paper.specs.Publish as P;

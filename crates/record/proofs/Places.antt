@@ -12,7 +12,7 @@ use Rattle.paper.specs.Numbers.{recordSize, wide}
 use Rattle.paper.specs.Bytes.{Bytes, number}
 use Rattle.paper.specs.Table.{Record}
 use Rattle.paper.proofs.Lists.{all-in, in-all, drop-take, upFrom-length, upFrom-snoc, upFrom-in, in-upFrom, in-map, map-in, getD-upFrom}
-use Rattle.words.proofs.Pasted.{part-is}
+use Rattle.ranges.proofs.Slices.{part-is}
 use Rattle.record.specs.Places.{recordIn, recordAt, recordsIn, Stands}
 
 -- ---- one record

@@ -1,7 +1,7 @@
 // The records of a table by their numbers: the one view through which everything above reads them. "A record has 168 bytes: name
 // length 1, name 64, version 2, epoch 4, key length 1, key 64, opening 32, unused bytes zero." Nothing is copied but numbers and
 // openings.
-use words::digest_at;
+use ranges::digest_at;
 use words::read16;
 use words::read32;
 ghost use mathlib.Core.Path.{_≡_};

@@ -1,6 +1,6 @@
 // The keys of a proof, one behind the other: "key length, key, opening".
 use fields::After;
-use words::digest_at;
+use ranges::digest_at;
 ghost use mathlib.Core.Path.{_≡_};
 ghost use Prim.Native.Nat.{_≤_};
 ghost use lib.ListN.{length};

@@ -1,8 +1,8 @@
 // The head in a proof's front: "the 100 bytes of a head after its 0x03", behind the six bytes of the header.
 use heads::head_at;
 use plan::Place;
-use words::digest_at;
-use words::same;
+use ranges::digest_at;
+use ranges::same;
 ghost use mathlib.Core.Path.{_≡_};
 ghost use Prim.Native.Nat.{_≤_};
 ghost use lib.ListN.{length};

@@ -8,7 +8,7 @@ use crate::opened::root_at;
 use path::Shown;
 use path::take;
 use plan::Place;
-use words::same;
+use ranges::same;
 ghost use mathlib.Core.Path.{_≡_};
 ghost use mathlib.Core.Bool.{true, false};
 ghost use Prim.Native.Nat.{_≤_};

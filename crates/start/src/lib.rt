@@ -5,7 +5,7 @@ use nodes::inner;
 use nodes::nothing;
 use paper::StartAnswer;
 use paper::State;
-use words::put;
+use ranges::put;
 ghost use mathlib.Core.Path.{_≡_};
 ghost use mathlib.Core.List.{[]};
 ghost use Rattle.paper.specs.Labelling.{plain};

@@ -21,7 +21,8 @@ use Rattle.paper.proofs.Lists.{all-in, in-all, all-left, all-right}
 use Rattle.paper.proofs.Bytes.{be-length, pack-length}
 use Rattle.paper.proofs.Tree.{side-in}
 use Rattle.paper.proofs.Way.{entries, build-entries}
-use Rattle.words.proofs.Pasted.{length-part, pasted-none}
+use Rattle.paper.proofs.Pasted.{pasted-none}
+use Rattle.ranges.proofs.Slices.{length-part}
 use Rattle.tree.proofs.Slots.{slot-wide}
 use Rattle.tree_path.specs.Written.{nodeBytes, Wrote}
 use Rattle.tree_path.proofs.Ends.{leaf-fields, node-long}

@@ -1,10 +1,10 @@
 // Writing the list of an audit into a lent output, from its count on.
 use crate::count::has_new;
 use crate::count::list_length;
+use ranges::put;
 use tree::Sides;
 use tree::fork_of;
 use tree_path::write_node;
-use words::put;
 use words::read32;
 use words::write16;
 use words::write32;

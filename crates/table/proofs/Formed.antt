@@ -15,8 +15,8 @@ use Rattle.paper.specs.Layout.{inLayout}
 use Rattle.paper.specs.Fields.{isName}
 use Rattle.paper.specs.Table.{filledField, recordField}
 use Rattle.paper.proofs.Lists.{and-left, and-right, all-drop}
-use Rattle.words.proofs.Compare.{zeros-same}
-use Rattle.words.proofs.Pasted.{length-part}
+use Rattle.ranges.proofs.Compare.{zeros-same}
+use Rattle.ranges.proofs.Slices.{length-part}
 use Rattle.fields.proofs.Flat.{flat-in, inside, outside}
 use Rattle.record.specs.Places.{recordIn, recordAt, Stands}
 use Rattle.record.proofs.Form.{filledTest, filled-flat, record-flat}

@@ -1,7 +1,7 @@
 // The layout of a record, tested in the table.
 use names::is_name;
+use ranges::all_zero;
 use record::name_at;
-use words::all_zero;
 use words::read16;
 ghost use mathlib.Core.Path.{_≡_};
 ghost use Prim.Native.Nat.{suc, _+_, _*_, _≤_};

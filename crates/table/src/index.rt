@@ -1,7 +1,7 @@
 // The index over names: `first` holds for each bucket 1 + the number of the last record in it, `next` for each record 1 + the number
 // of the last record before it in the same bucket, and 0 says that there is none.
+use ranges::same;
 use record::name_at;
-use words::same;
 ghost use mathlib.Core.Path.{_≡_};
 ghost use Prim.Native.Nat.{suc, _<_};
 ghost use lib.ListN.{length, replicate};

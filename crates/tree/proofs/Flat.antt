@@ -19,7 +19,7 @@ use Rattle.paper.proofs.Tree.{Free, common-most, common-next, side-all, side-be
 use Rattle.paper.proofs.Walk.{no-starts}
 use Rattle.paper.proofs.Fits.{digest-wide}
 use Rattle.bit_order.proofs.Sides.{ordered-free}
-use Rattle.words.proofs.Pasted.{rest-is}
+use Rattle.ranges.proofs.Slices.{rest-is}
 use Rattle.tree.specs.Stored.{flat, Sorted, Range}
 use Rattle.bit_order.proofs.Leaves.{leaves-length, leaves-long}
 use Rattle.tree.proofs.Leaves.{long-short, leaves-some}

@@ -11,7 +11,7 @@ use Rattle.paper.specs.Bits.{bitsOf, lcp, firstDifference}
 use Rattle.paper.specs.Strings.{nothing}
 use Rattle.paper.specs.Tree.{key, fork, build, root}
 use Rattle.paper.specs.Level.{entryLeaf, leavesIn, rising}
-use Rattle.words.proofs.Pasted.{rest-is}
+use Rattle.ranges.proofs.Slices.{rest-is}
 use Rattle.bit_order.proofs.Order.{rising-ordered, rising-left, rising-right}
 use Rattle.bit_order.proofs.Leaves.{leaves-length, leaves-long, leaf-at, leaves-split}
 use Rattle.tree.specs.Stored.{Sorted, Range, Cut, Forked}

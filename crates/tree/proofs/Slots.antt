@@ -12,7 +12,8 @@ use Rattle.paper.specs.Strings.{Node, inner, nodeString, nothingString}
 use Rattle.paper.specs.Tree.{key, digest, Tree, fork, top, build, rootDigest}
 use Rattle.paper.specs.Level.{entryLeaf, leavesIn}
 use Rattle.paper.proofs.Fits.{digest-wide}
-use Rattle.words.proofs.Pasted.{rest-is, pasted-none, pasted-at}
+use Rattle.paper.proofs.Pasted.{pasted-none, pasted-at}
+use Rattle.ranges.proofs.Slices.{rest-is}
 use Rattle.tree.specs.Stored.{flat, Sorted, Cut, BelowLaid, Side, SideLaid, Stored, Laid}
 use Rattle.tree.specs.declared.Sides.{Sides}
 use Rattle.bit_order.proofs.Leaves.{leaves-length, leaves-long}

@@ -18,7 +18,7 @@ use Rattle.paper.specs.Fields.{endKind, endOf, endField, stepField, pathField}
 use Rattle.paper.proofs.Lists.{all-take, all-drop}
 use Rattle.paper.proofs.Bytes.{be-length, be-number, pack-length, pack-bitsOf}
 use Rattle.paper.proofs.Fits.{step-fits, path-fits}
-use Rattle.words.proofs.Pasted.{length-part}
+use Rattle.ranges.proofs.Slices.{length-part}
 use Rattle.tree_path.specs.Written.{endSize, nodeBytes, endBytes, wayBytes}
 
 -- ---- the parts

@@ -12,7 +12,7 @@ use Rattle.paper.specs.Tree.{Tree, top, build, root}
 use Rattle.paper.specs.Fields.{stepField}
 use Rattle.paper.specs.Level.{leavesIn}
 use Rattle.paper.proofs.Fits.{digest-wide}
-use Rattle.words.proofs.Pasted.{rest-is}
+use Rattle.ranges.proofs.Slices.{rest-is}
 use Rattle.tree.specs.Stored.{flat, Sorted, Side, Stored}
 use Rattle.tree.specs.declared.Sides.{Sides}
 use Rattle.bit_order.proofs.Leaves.{leaves-length}

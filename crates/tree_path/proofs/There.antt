@@ -24,7 +24,7 @@ use Rattle.paper.proofs.Walk.{sameBits-eq}
 use Rattle.paper.proofs.Fits.{path-fits}
 use Rattle.paper.proofs.Honest.{LeafSized, LeafSet, held-not, way-present, way-absent, way-fits}
 use Rattle.bit_order.proofs.Sides.{ordered-free}
-use Rattle.words.proofs.Pasted.{length-part}
+use Rattle.ranges.proofs.Slices.{length-part}
 use Rattle.tree.specs.Stored.{Sorted}
 use Rattle.bit_order.proofs.Order.{rising-ordered}
 use Rattle.tree_path.proofs.Ends.{size-most, path-size}

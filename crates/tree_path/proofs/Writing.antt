@@ -12,7 +12,7 @@ use Rattle.paper.specs.Layout.{timesBytes}
 use Rattle.paper.specs.Fields.{stepField, pathField}
 use Rattle.paper.specs.Level.{leavesIn}
 use Rattle.paper.proofs.Bytes.{be-length}
-use Rattle.words.proofs.Pasted.{pasted-one, pasted-pasted}
+use Rattle.paper.proofs.Pasted.{pasted-one, pasted-pasted}
 use Rattle.tree_path.specs.Written.{wayBytes, Wrote}
 use Rattle.tree_path.proofs.Ends.{step-bytes, path-bytes, none-bytes}
 use Rattle.tree.proofs.Leaves.{bare}

@@ -1,10 +1,10 @@
 // A label's way down the tree: how many steps it has, and how it ends. From these two follows how many bytes the path has.
 use bits::first_difference;
 use bits::label_bit;
+use ranges::same;
 use tree::fork_of;
 use tree::label_of;
 use tree::split;
-use words::same;
 ghost use mathlib.Core.Path.{_≡_};
 ghost use Prim.Native.Nat.{_+_, _≤_};
 ghost use lib.ListN.{length, take};

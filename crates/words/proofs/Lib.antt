@@ -1,6 +1,2 @@
--- Laws of the strings that the functions read and write, for the crates above too.
-pub mod Pasted
+-- Laws of numbers in bytes, for the crates above too.
 pub mod Number
-pub mod Compare
-pub mod Slices
-pub mod Row

@@ -4,13 +4,13 @@ use mathlib.Core.List.{[], _∷_, _++_}
 use Prim.Native.Nat.{ℕ, _+_, _*_, _/_, _%_, _^_, _≤_, _<_}
 use native.Mathlib.Nat.{add-assoc, mul-assoc, add-mul, mod-lt, div-add-mod', div-lt-iff-lt-mul}
 use native.Mathlib.Omega.{arith}
-use lib.ListN.{length, getD, take, drop, set, length-append}
-use lib.Seq.{take-add, drop-drop, drop-cons}
+use lib.ListN.{length, getD, take, drop, set, length-append, length-drop}
+use lib.Seq.{take-add, drop-drop, drop-cons, length-take-le}
 use lib.Pow.{pow-add}
 use Rattle.paper.specs.Bytes.{Bytes, be, number, pasted}
 use Rattle.paper.proofs.Lists.{all-append}
 use Rattle.paper.proofs.Bytes.{be-length, be-bytes, number-be, be-number, pow256-pos}
-use Rattle.words.proofs.Pasted.{length-part, pasted-one, pasted-pasted}
+use Rattle.paper.proofs.Pasted.{pasted-one, pasted-pasted}
 
 number-append : (s t : Bytes) → number (s ++ t) ≡ number s * 256 ^ length t + number t
 unfolding number
@@ -26,7 +26,7 @@ number-one s at h = rw (drop-cons s at 0 h) (omega arith)
 
 pub number-part : (s : Bytes) (at m n : ℕ) → at + m + n ≤ length s → number (take (m + n) (drop at s)) ≡ number (take m (drop at s)) * 256 ^ n + number (take n (drop (at + m) s))
 number-part s at m n h =
-    rw (take-add m n (drop at s), drop-drop m at s, number-append (take m (drop at s)) (take n (drop (at + m) s)), length-part s (at + m) n h)
+    rw (take-add m n (drop at s), drop-drop m at s, number-append (take m (drop at s)) (take n (drop (at + m) s)), length-take-le n (drop (at + m) s) (omega (arith, length-drop (at + m) s)))
 
 be-append : (m n a b : ℕ) → a < 256 ^ m → b < 256 ^ n → be m a ++ be n b ≡ be (m + n) (a * 256 ^ n + b)
 be-append m n a b ha hb =

@@ -22,7 +22,7 @@ use Rattle.paper.proofs.Proofs.{list-lawful}
 use Rattle.paper.proofs.Fits.{digest-wide}
 use Rattle.paper.proofs.Honest.{LeafSet}
 use Rattle.paper.proofs.Audited.{list-order, list-fit}
-use Rattle.words.proofs.Pasted.{length-part}
+use Rattle.ranges.proofs.Slices.{length-part}
 use Rattle.tree.specs.Stored.{Sorted, Stored}
 use Rattle.tree.specs.declared.Sides.{Sides}
 use Rattle.tree_path.specs.Written.{Wrote}

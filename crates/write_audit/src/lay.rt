@@ -2,9 +2,9 @@
 // that the lists build without their new leaves.
 use forest::Grown;
 use front::previous_head;
+use ranges::put;
 use subtrees::write_list;
 use tree::root;
-use words::put;
 use words::read32;
 use words::write32;
 ghost use mathlib.Core.Path.{_≡_};

@@ -15,7 +15,7 @@ use Rattle.paper.specs.Table.{previousHead, lastVersion}
 use Rattle.paper.specs.Write.{versionsBy}
 use Rattle.paper.specs.declared.State.{State}
 use Rattle.paper.proofs.Fits.{digest-wide}
-use Rattle.words.proofs.Pasted.{length-part}
+use Rattle.ranges.proofs.Slices.{length-part}
 use Rattle.record.specs.Places.{recordsIn, Stands}
 use Rattle.table.specs.Index.{lastWhere}
 use Rattle.table.proofs.Last.{last-most}

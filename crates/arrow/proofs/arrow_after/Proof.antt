@@ -11,7 +11,7 @@ use Rattle.paper.specs.Audit.{checkAudit}
 use Rattle.paper.specs.Answer.{lookupNumber, historyNumber, auditNumber}
 use Rattle.paper.specs.Arrow.{AuditStep}
 use Rattle.paper.proofs.Arrow.{plain-sized}
-use Rattle.words.proofs.Slices.{bytewise}
+use Rattle.ranges.proofs.Slices.{bytewise}
 use Rattle.arrow.specs.Pointed.{Pointed, allAccepted}
 use Rattle.arrow.proofs.Pointing.{pointed, unlooked, unaudited, reached}
 use Rattle.arrow.proofs.arrow_after.Statement.{statement}

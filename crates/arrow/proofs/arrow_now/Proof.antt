@@ -6,7 +6,7 @@ use Rattle.paper.specs.Labelling.{plain}
 use Rattle.paper.specs.Lookup.{checkLookup}
 use Rattle.paper.specs.Answer.{lookupNumber, historyNumber}
 use Rattle.paper.proofs.Arrow.{plain-sized}
-use Rattle.words.proofs.Slices.{bytewise}
+use Rattle.ranges.proofs.Slices.{bytewise}
 use Rattle.arrow.proofs.Pointing.{pointed, unlooked, reached}
 use Rattle.arrow.proofs.arrow_now.Statement.{statement}
 use Rattle.arrow.proofs.arrow_now.Tie as tie

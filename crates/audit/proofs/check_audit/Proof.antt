@@ -9,7 +9,7 @@ use Rattle.paper.specs.Bytes.{Bytes, Bytewise}
 use Rattle.paper.specs.Layout.{got, parse, inLayout}
 use Rattle.paper.specs.Audit.{auditField, auditRead}
 use Rattle.audit_form.specs.Places.{auditAt, Laid}
-use Rattle.words.proofs.Slices.{bytewise}
+use Rattle.ranges.proofs.Slices.{bytewise}
 use Rattle.audit_form.proofs.Form.{audit-bad, audit-reads, audit-laid}
 use Rattle.audit.proofs.Parts.{input-old, input-new, input-fits, heads-refused, heads-passed}
 use Rattle.audit.proofs.check_audit.Statement.{statement}

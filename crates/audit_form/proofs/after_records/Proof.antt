@@ -7,7 +7,7 @@ use Rattle.paper.specs.Bytes.{Bytewise}
 use Rattle.paper.specs.Layout.{times}
 use Rattle.paper.specs.Audit.{auditRecordField}
 use Rattle.paper.proofs.Proofs.{audit-record-lawful}
-use Rattle.words.proofs.Slices.{bytewise}
+use Rattle.ranges.proofs.Slices.{bytewise}
 use Rattle.fields.specs.After.{afterAt}
 use Rattle.fields.proofs.Behind.{loop-on, loop-stop, loop-end}
 use Rattle.audit_form.proofs.Form.{record-reach, record-on, record-stop}

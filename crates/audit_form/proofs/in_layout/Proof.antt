@@ -5,7 +5,7 @@ use mathlib.Core.Path.{sym, _∙_}
 use lib.Seq.{length-take-le}
 use borrow.Author.Tests.{not-true, not-false}
 use Rattle.paper.specs.Bytes.{Bytewise}
-use Rattle.words.proofs.Slices.{bytewise}
+use Rattle.ranges.proofs.Slices.{bytewise}
 use Rattle.audit_form.proofs.Form.{list-place, audit-short, audit-closed, audit-none, audit-ends}
 use Rattle.audit_form.proofs.in_layout.Statement.{statement}
 use Rattle.audit_form.proofs.in_layout.Tie as tie

@@ -7,7 +7,7 @@ use lib.Dec.{eqb}
 use lib.ListN.{take, drop}
 use borrow.Author.Tests.{eq-eqb, ne-eqb}
 use Rattle.paper.specs.Lists.{every}
-use Rattle.words.proofs.Slices.{bytewise}
+use Rattle.ranges.proofs.Slices.{bytewise}
 use Rattle.audit_form.proofs.Record.{leaf-test}
 use Rattle.audit_form.proofs.leaf_form.Statement.{statement}
 use Rattle.audit_form.proofs.leaf_form.Tie as tie

@@ -10,7 +10,7 @@ use Rattle.paper.specs.Numbers.{wide}
 use Rattle.paper.specs.Bytes.{number, same}
 use Rattle.paper.specs.Bits.{bitsOf, pack}
 use Rattle.audit_form.specs.Places.{keyAt}
-use Rattle.words.proofs.Slices.{bytewise}
+use Rattle.ranges.proofs.Slices.{bytewise}
 use Rattle.audit_form.proofs.Record.{prefix-out, prefix-in}
 use Rattle.audit_form.proofs.prefix_form.Statement.{statement}
 use Rattle.audit_form.proofs.prefix_form.Tie as tie

@@ -12,7 +12,7 @@ use Rattle.batch.proofs.again.Tie as tie
 use Rattle.batch.proofs.again.Reads as reads
 use Rattle.batch.proofs.again.Lts as lts
 use Rattle.batch.proofs.name_in.Reads as name-in-reads
-use Rattle.words.proofs.same.Reads as same-reads
+use Rattle.ranges.proofs.same.Reads as same-reads
 
 abbrev Inv-loop : tie.InvT-loop
 Inv-loop s n i name j₀ j = (suc i ≤ j) × (j ≤ n) × (bearsFrom s n i (suc i) ≡ bearsFrom s n i j)

@@ -5,7 +5,7 @@ use mathlib.Core.Path.{_≡_, sym, ap, _∙_}
 use mathlib.Core.Bool.{true}
 use Rattle.paper.specs.Bytes.{Bytewise}
 use Rattle.paper.specs.Fields.{isName}
-use Rattle.words.proofs.Slices.{bytewise}
+use Rattle.ranges.proofs.Slices.{bytewise}
 use Rattle.batch.proofs.Form.{nameFormed, keyFormed, formed-nameless, formed-keyless, formed-name, lies-by}
 use Rattle.batch.proofs.in_form.Statement.{statement}
 use Rattle.batch.proofs.in_form.Tie as tie

@@ -7,7 +7,7 @@ use mathlib.Core.Path.{_≡_, sym, ap, _∙_}
 use mathlib.Core.Bool.{true}
 use Prim.Native.Nat.{ℕ, _-_, _≤_, _<_}
 use Rattle.paper.specs.Layout.{inLayout}
-use Rattle.words.proofs.Slices.{bytewise}
+use Rattle.ranges.proofs.Slices.{bytewise}
 use Rattle.batch.proofs.Form.{formed, batch-read, batch-bad}
 use Rattle.batch.proofs.in_layout.Statement.{statement}
 use Rattle.batch.proofs.in_layout.Tie as tie

@@ -9,7 +9,7 @@ use Rattle.gather.proofs.put_leaf.Statement.{statement}
 use Rattle.gather.proofs.put_leaf.Tie as tie
 use Rattle.gather.proofs.put_leaf.Reads as reads
 use Rattle.gather.proofs.put_leaf.Lts as lts
-use Rattle.words.proofs.put.Reads as put-reads
+use Rattle.ranges.proofs.put.Reads as put-reads
 use Rattle.words.proofs.write32.Reads as write32-reads
 
 -- src/lib.rt:28:14

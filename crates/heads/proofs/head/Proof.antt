@@ -7,7 +7,7 @@ use Rattle.fips.specs.Sha256.{sha256}
 use Rattle.paper.specs.Bytes.{be}
 use Rattle.paper.specs.Strings.{headString, headBytes}
 use Rattle.paper.proofs.Bytes.{be-length}
-use Rattle.words.proofs.Row.{Parts, row-all}
+use Rattle.ranges.proofs.Row.{Parts, row-all}
 use Rattle.heads.proofs.head.Statement.{statement}
 use Rattle.heads.proofs.head.Tie as tie
 

@@ -5,7 +5,7 @@ use mathlib.Core.Path.{_≡_, ap}
 use Prim.Native.Nat.{suc, _+_, _*_, _%_, _^_, _≤_}
 use Rattle.paper.specs.Bytes.{Bytewise}
 use Rattle.paper.specs.Bits.{log2}
-use Rattle.words.proofs.Slices.{bytewise}
+use Rattle.ranges.proofs.Slices.{bytewise}
 use Rattle.plan.specs.declared.Place.the-variants.{InAll}
 use Rattle.history.specs.Asks.{askVersion, askReplaced, askMarker, lack, used}
 use Rattle.history.proofs.Going.{used-ready}

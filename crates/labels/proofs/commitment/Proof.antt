@@ -8,7 +8,7 @@ use lib.ListN.{length}
 use lib.Seq.{length-take-le}
 use Rattle.fips.specs.Sha256.{sha256}
 use Rattle.paper.specs.Strings.{commitmentString}
-use Rattle.words.proofs.Row.{Parts, row-front}
+use Rattle.ranges.proofs.Row.{Parts, row-front}
 use Rattle.labels.proofs.commitment.Statement.{statement}
 use Rattle.labels.proofs.commitment.Tie as tie
 

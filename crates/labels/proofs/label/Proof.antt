@@ -10,7 +10,7 @@ use Rattle.fips.specs.Sha256.{sha256}
 use Rattle.paper.specs.Bytes.{be}
 use Rattle.paper.specs.Strings.{labelString}
 use Rattle.paper.proofs.Bytes.{be-length}
-use Rattle.words.proofs.Row.{Parts, row-front}
+use Rattle.ranges.proofs.Row.{Parts, row-front}
 use Rattle.labels.proofs.label.Statement.{statement}
 use Rattle.labels.proofs.label.Tie as tie
 

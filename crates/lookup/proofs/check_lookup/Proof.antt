@@ -8,7 +8,7 @@ use lib.ListN.{length}
 use Rattle.paper.specs.Bytes.{Bytewise}
 use Rattle.paper.specs.Fields.{isName}
 use Rattle.paper.specs.Lookup.{lookupAsked, lookupKeys}
-use Rattle.words.proofs.Slices.{bytewise}
+use Rattle.ranges.proofs.Slices.{bytewise}
 use Rattle.shown.specs.Form.{frontAt}
 use Rattle.shown.specs.declared.Front.the-variants as F
 use Rattle.names.proofs.Named.{name-short}

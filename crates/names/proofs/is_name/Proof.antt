@@ -8,7 +8,7 @@ use Prim.Native.Nat.{_-_, _≤_}
 use lib.ListN.{length, getD, drop}
 use Rattle.paper.specs.Lists.{every}
 use Rattle.paper.specs.Fields.{isName}
-use Rattle.words.proofs.Compare.{every-none, every-pass, every-fail}
+use Rattle.ranges.proofs.Compare.{every-none, every-pass, every-fail}
 use Rattle.fields.proofs.Flat.{inside, outside}
 use Rattle.names.proofs.Named.{printed, name-sized, name-unsized}
 use Rattle.names.proofs.is_name.Statement.{statement}

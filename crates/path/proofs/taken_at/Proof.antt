@@ -5,7 +5,7 @@ use native.Mathlib.Omega.{arith}
 use mathlib.Core.Path.{sym}
 use Rattle.paper.specs.Bytes.{Bytewise, same}
 use Rattle.path_form.specs.Places.{PathStands}
-use Rattle.words.proofs.Slices.{bytewise}
+use Rattle.ranges.proofs.Slices.{bytewise}
 use Rattle.path.proofs.Found.{path-stands, taken-bad, taken-good}
 use Rattle.path.proofs.taken_at.Statement.{statement}
 use Rattle.path.proofs.taken_at.Tie as tie

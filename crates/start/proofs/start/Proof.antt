@@ -18,7 +18,7 @@ use Rattle.start.proofs.start.Lts as lts
 use Rattle.bounds.proofs.heads_within.Reads as heads-within-reads
 use Rattle.start.proofs.empty_root.Reads as empty-root-reads
 use Rattle.heads.proofs.head.Reads as head-reads
-use Rattle.words.proofs.put.Reads as put-reads
+use Rattle.ranges.proofs.put.Reads as put-reads
 
 -- src/lib.rt:26:9
 heads-within-requires : tie.Need-heads-within-requires

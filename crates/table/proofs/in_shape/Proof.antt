@@ -1,7 +1,7 @@
 -- `table::in_shape`: where the head and the records lie in their tables, the records decide.
 use borrow.Author.Needs.{needs}
 use native.Mathlib.Omega.{arith}
-use Rattle.words.proofs.Slices.{bytewise}
+use Rattle.ranges.proofs.Slices.{bytewise}
 use Rattle.table.proofs.Walk.{index-none}
 use Rattle.table.proofs.Shapes.{head-fails, records-fail, records-decide}
 use Rattle.table.proofs.in_shape.Statement.{statement}

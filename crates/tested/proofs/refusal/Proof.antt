@@ -6,7 +6,7 @@ use mathlib.Core.Path.{_≡_, sym, _∙_}
 use mathlib.Core.Bool.{true}
 use Prim.Native.Nat.{ℕ}
 use Rattle.paper.specs.Verdict.{verdict}
-use Rattle.words.proofs.Slices.{bytewise}
+use Rattle.ranges.proofs.Slices.{bytewise}
 use Rattle.table.specs.Shape.{shaped}
 use Rattle.tested.specs.Tested.{inputGood, firstRefusal, Tested}
 use Rattle.tested.proofs.First.{records-few, tested}

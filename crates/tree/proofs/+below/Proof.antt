@@ -10,7 +10,7 @@ use lib.Seq.{length-take-le}
 use Rattle.tree.proofs.Halves.{Halves, halves, before-sorted, behind-sorted}
 use Rattle.tree.proofs.Slots.{Over, length-first, length-all, laid-over, below-one-leaf, below-fork, both-wide}
 use Rattle.paper.specs.Bytes.{Bytes}
-use Rattle.words.proofs.Pasted.{rest-is}
+use Rattle.ranges.proofs.Slices.{rest-is}
 use borrow.Fn.Kinds.{In}
 use borrow.Fn.PlainCycle.{Measures, is, falls, and}
 use Rattle.tree.proofs.below.Reads as below

@@ -1,7 +1,7 @@
 -- `tree::label_of`: the part has 32 bytes.
 use borrow.Author.Needs.{needs}
 use Prim.Native.Nat.{_*_}
-use Rattle.words.proofs.Pasted.{part-is}
+use Rattle.ranges.proofs.Slices.{part-is}
 use Rattle.tree.proofs.label_of.Statement.{statement}
 use Rattle.tree.proofs.label_of.Tie as tie
 

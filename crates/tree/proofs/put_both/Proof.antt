@@ -5,7 +5,7 @@ use mathlib.Core.Path.{_≡_, ap₂, _∙_}
 use Prim.Native.Nat.{_+_}
 use lib.ListN.{length}
 use Rattle.paper.specs.Bytes.{pasted}
-use Rattle.words.proofs.Pasted.{pasted-pasted}
+use Rattle.paper.proofs.Pasted.{pasted-pasted}
 use Rattle.tree.proofs.put_both.Statement.{statement}
 use Rattle.tree.proofs.put_both.Tie as tie
 

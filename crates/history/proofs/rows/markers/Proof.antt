@@ -3,7 +3,7 @@ use borrow.Author.Needs.{needs}
 use native.Mathlib.Omega.{arith}
 use mathlib.Core.Path.{_≡_, ap, _∙_}
 use Prim.Native.Nat.{_+_, _-_, _*_, _%_, _^_}
-use Rattle.words.proofs.Slices.{bytewise}
+use Rattle.ranges.proofs.Slices.{bytewise}
 use Rattle.history.specs.Asks.{askMarker, epochFrom}
 use Rattle.history.proofs.Going.{Going, going-starts, going-ready, going-on, going-ends}
 use Rattle.history.proofs.Powers.{Power, power}

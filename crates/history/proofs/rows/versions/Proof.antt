@@ -4,7 +4,7 @@ use borrow.Author.Needs.{needs}
 use native.Mathlib.Omega.{arith}
 use mathlib.Core.Path.{_≡_, refl, sym, ap, _∙_, subst}
 use Prim.Native.Nat.{_+_, _-_, _≤_}
-use Rattle.words.proofs.Slices.{bytewise}
+use Rattle.ranges.proofs.Slices.{bytewise}
 use Rattle.shown.specs.Form.{ItemStands}
 use Rattle.history.specs.Asks.{askVersion, itemAt, placeAt, epochFrom}
 use Rattle.history.proofs.Going.{Going, going-starts, going-ready, going-on, going-ends}

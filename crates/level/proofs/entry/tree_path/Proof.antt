@@ -19,7 +19,7 @@ use Rattle.level.proofs.entry.tree_path.Lts as lts
 use Rattle.bounds.proofs.entries_within.Reads as entries-within-reads
 use Rattle.level.proofs.entry.row.Reads as row-reads
 use Rattle.level.proofs.path.path_over.Reads as path-over-reads
-use Rattle.words.proofs.put.Reads as put-reads
+use Rattle.ranges.proofs.put.Reads as put-reads
 
 -- src/entry.rt:42:9
 entries-within-requires : tie.Need-entries-within-requires

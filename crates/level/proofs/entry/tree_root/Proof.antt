@@ -23,7 +23,7 @@ use Rattle.level.proofs.entry.tree_root.Lts as lts
 use Rattle.bounds.proofs.entries_within.Reads as entries-within-reads
 use Rattle.level.proofs.entry.row.Reads as row-reads
 use Rattle.level.proofs.root.root_of.Reads as root-of-reads
-use Rattle.words.proofs.put.Reads as put-reads
+use Rattle.ranges.proofs.put.Reads as put-reads
 
 -- src/entry.rt:28:9
 entries-within-requires : tie.Need-entries-within-requires

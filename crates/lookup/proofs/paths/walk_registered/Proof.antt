@@ -3,7 +3,7 @@ use borrow.Author.Needs.{needs}
 use native.Mathlib.Omega.{arith}
 use Prim.Native.Nat.{_≤_}
 use Rattle.paper.specs.Bytes.{Bytewise}
-use Rattle.words.proofs.Slices.{bytewise}
+use Rattle.ranges.proofs.Slices.{bytewise}
 use Rattle.shown.proofs.Walked.{Counted, walked-counted, counted-ready}
 use Rattle.shown.specs.declared.Walk.the-variants.{On}
 use Rattle.bits.proofs.Powers.{marker-few, marker-shift}

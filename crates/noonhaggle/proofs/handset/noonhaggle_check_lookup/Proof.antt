@@ -2,7 +2,7 @@
 use borrow.Author.Needs.{needs}
 use mathlib.Core.Path.{sym, ap, _∙_}
 use native.Mathlib.Omega.{arith}
-use Rattle.words.proofs.Slices.{bytewise}
+use Rattle.ranges.proofs.Slices.{bytewise}
 use Rattle.words.proofs.Number.{number-one}
 use Rattle.shown.specs.Form.{ItemStands}
 use Rattle.lookup.proofs.Checked.{key-found}

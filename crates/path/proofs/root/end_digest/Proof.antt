@@ -4,7 +4,7 @@ use native.Mathlib.Omega.{arith}
 use mathlib.Core.Path.{_∙_}
 use Rattle.paper.specs.Bytes.{Bytewise}
 use Rattle.paper.proofs.Fits.{Wide}
-use Rattle.words.proofs.Slices.{bytewise}
+use Rattle.ranges.proofs.Slices.{bytewise}
 use Rattle.path.proofs.Climb.{this-digest, other-digest, off-digest}
 use Rattle.path.proofs.root.end_digest.Statement.{statement}
 use Rattle.path.proofs.root.end_digest.Tie as tie

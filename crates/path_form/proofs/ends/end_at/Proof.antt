@@ -7,7 +7,7 @@ use lib.ListN.{getD}
 use Rattle.paper.specs.Bytes.{Bytewise}
 use Rattle.paper.specs.Fields.{endOf, endField}
 use Rattle.path_form.specs.Parsed.{endedAt}
-use Rattle.words.proofs.Slices.{bytewise}
+use Rattle.ranges.proofs.Slices.{bytewise}
 use Rattle.path_form.proofs.Ending.{kind-missing, kind-good, kind-bad, none-yes, none-no}
 use Rattle.path_form.proofs.ends.end_at.Statement.{statement}
 use Rattle.path_form.proofs.ends.end_at.Tie as tie

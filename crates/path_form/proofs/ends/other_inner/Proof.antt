@@ -4,7 +4,7 @@ use borrow.Author.Tests.{not-true, not-false}
 use mathlib.Core.Path.{sym, _∙_}
 use Rattle.paper.specs.Fields.{endOf}
 use Rattle.path_form.proofs.Fields.{off-flat}
-use Rattle.words.proofs.Slices.{bytewise}
+use Rattle.ranges.proofs.Slices.{bytewise}
 use Rattle.path_form.proofs.Ending.{ended-yes, ended-short, ended-no}
 use Rattle.path_form.proofs.ends.other_inner.Statement.{statement}
 use Rattle.path_form.proofs.ends.other_inner.Tie as tie

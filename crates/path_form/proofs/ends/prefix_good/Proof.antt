@@ -4,7 +4,7 @@ use borrow.Author.Tests.{ltb-true, ltb-false}
 use native.Mathlib.Omega.{arith}
 use mathlib.Core.Path.{sym, _∙_}
 use mathlib.Core.Logic.{inl, inr, ⊎-elim}
-use Rattle.words.proofs.Slices.{bytewise}
+use Rattle.ranges.proofs.Slices.{bytewise}
 use Rattle.path_form.proofs.Prefix.{prefix-long, prefix-tested}
 use Rattle.path_form.proofs.ends.prefix_good.Statement.{statement}
 use Rattle.path_form.proofs.ends.prefix_good.Tie as tie

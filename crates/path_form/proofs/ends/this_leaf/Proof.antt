@@ -6,7 +6,7 @@ use lib.Seq.{drop-drop}
 use Rattle.paper.specs.Bytes.{number}
 use Rattle.paper.specs.Fields.{endOf}
 use Rattle.path_form.proofs.Fields.{this-flat}
-use Rattle.words.proofs.Slices.{bytewise}
+use Rattle.ranges.proofs.Slices.{bytewise}
 use Rattle.path_form.proofs.Ending.{ended-yes, ended-short}
 use Rattle.path_form.proofs.ends.this_leaf.Statement.{statement}
 use Rattle.path_form.proofs.ends.this_leaf.Tie as tie

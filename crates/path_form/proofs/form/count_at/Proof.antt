@@ -6,7 +6,7 @@ use mathlib.Core.Path.{sym}
 use mathlib.Core.Logic.{⊎-elim}
 use Prim.Native.Nat.{_+_, _<_}
 use lib.ListN.{length}
-use Rattle.words.proofs.Slices.{bytewise}
+use Rattle.ranges.proofs.Slices.{bytewise}
 use Rattle.path_form.proofs.Reading.{count-short, count-high, count-read}
 use Rattle.path_form.proofs.form.count_at.Statement.{statement}
 use Rattle.path_form.proofs.form.count_at.Tie as tie

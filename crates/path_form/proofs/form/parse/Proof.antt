@@ -7,7 +7,7 @@ use Prim.Native.Nat.{_+_, _*_, _≤_}
 use lib.ListN.{length}
 use Rattle.paper.specs.Bytes.{Bytewise}
 use Rattle.path_form.specs.Parsed.{pathAt}
-use Rattle.words.proofs.Slices.{bytewise}
+use Rattle.ranges.proofs.Slices.{bytewise}
 use Rattle.path_form.proofs.Steps.{rising-there}
 use Rattle.path_form.proofs.Reading.{Counted, pathWith, with-good, with-bad, path-countless, path-counted, path-falls, path-rest}
 use Rattle.path_form.proofs.form.parse.Statement.{statement}

@@ -2,7 +2,7 @@
 use borrow.Author.Needs.{needs}
 use Prim.Native.Nat.{_*_}
 use Rattle.paper.specs.Table.{headAt}
-use Rattle.words.proofs.Pasted.{part-is}
+use Rattle.ranges.proofs.Slices.{part-is}
 use Rattle.promises.proofs.kept.head_at.Statement.{statement}
 use Rattle.promises.proofs.kept.head_at.Tie as tie
 

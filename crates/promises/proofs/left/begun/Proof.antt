@@ -3,7 +3,7 @@ use borrow.Author.Needs.{needs}
 use borrow.Author.Tests.{not-true, not-false}
 use mathlib.Core.Path.{sym, _∙_}
 use Rattle.paper.specs.Labelling.{plain}
-use Rattle.words.proofs.Slices.{bytewise}
+use Rattle.ranges.proofs.Slices.{bytewise}
 use Rattle.promises.proofs.Publishings.{unbegun, begun-left}
 use Rattle.promises.proofs.left.begun.Statement.{statement}
 use Rattle.promises.proofs.left.begun.Tie as tie

@@ -1,7 +1,7 @@
 -- `promises::left::further`: what publishing leaves of a directory is one.
 use borrow.Author.Needs.{needs}
 use Rattle.paper.specs.Labelling.{plain}
-use Rattle.words.proofs.Slices.{bytewise}
+use Rattle.ranges.proofs.Slices.{bytewise}
 use Rattle.promises.proofs.Publishings.{further-left}
 use Rattle.promises.proofs.left.further.Statement.{statement}
 use Rattle.promises.proofs.left.further.Tie as tie

@@ -5,13 +5,13 @@ use mathlib.Core.Path.{_≡_, ap, ap₂, _∙_}
 use Prim.Native.Nat.{_+_, _-_, _*_}
 use lib.ListN.{take, drop}
 use Rattle.paper.specs.Bytes.{be, pasted}
-use Rattle.words.proofs.Pasted.{part-is}
+use Rattle.ranges.proofs.Slices.{part-is}
 use Rattle.publish.proofs.Made.{laid}
 use Rattle.publish.proofs.fresh.lay.Statement.{statement}
 use Rattle.publish.proofs.fresh.lay.Tie as tie
 use Rattle.publish.proofs.fresh.lay.Reads as reads
 use Rattle.publish.proofs.fresh.lay.Lts as lts
-use Rattle.words.proofs.put.Reads as put-reads
+use Rattle.ranges.proofs.put.Reads as put-reads
 use Rattle.words.proofs.write16.Reads as write16-reads
 use Rattle.words.proofs.write32.Reads as write32-reads
 

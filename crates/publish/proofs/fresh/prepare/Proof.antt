@@ -7,7 +7,7 @@ use mathlib.Core.Path.{_≡_, refl, sym, _∙_, subst}
 use mathlib.Core.Bool.{false≢true}
 use Prim.Native.Nat.{ℕ, suc, _-_, _*_, _≤_, _<_}
 use lib.ListN.{length}
-use Rattle.words.proofs.Slices.{bytewise}
+use Rattle.ranges.proofs.Slices.{bytewise}
 use Rattle.batch.proofs.Form.{formed-lies}
 use Rattle.publish.proofs.Prepared.{Begun, begun-none, begun-more, begun-stop}
 use Rattle.publish.proofs.fresh.prepare.Statement.{statement}

@@ -13,7 +13,7 @@ use Rattle.publish.proofs.publishing.publish.Reads as reads
 use Rattle.publish.proofs.publishing.publish.Lts as lts
 use Rattle.publish.proofs.publishing.blank.Reads as blank-reads
 use Rattle.publish.proofs.weigh.weigh.Reads as weigh-reads
-use Rattle.words.proofs.put.Reads as put-reads
+use Rattle.ranges.proofs.put.Reads as put-reads
 
 -- src/publishing.rt:19:21
 blank-requires : tie.Need-blank-requires

@@ -19,7 +19,7 @@ use Rattle.publish.proofs.weigh.head_of.Lts as lts
 use Rattle.publish.proofs.plant.plant.Reads as plant-reads
 use Rattle.publish.proofs.weigh.refused.Reads as refused-reads
 use Rattle.heads.proofs.head.Reads as head-reads
-use Rattle.words.proofs.digest_at.Reads as digest-at-reads
+use Rattle.ranges.proofs.digest_at.Reads as digest-at-reads
 
 -- src/weigh.rt:65:47
 add-plant : tie.Need-add-plant

@@ -13,7 +13,7 @@ use Rattle.paper.specs.Bytes.{Bytewise}
 use Rattle.paper.specs.Labelling.{plain}
 use Rattle.paper.specs.Publish.{once}
 use Rattle.paper.proofs.Lists.{and-left, and-right}
-use Rattle.words.proofs.Slices.{bytewise}
+use Rattle.ranges.proofs.Slices.{bytewise}
 use Rattle.record.specs.Places.{recordsIn, Stands}
 use Rattle.table.specs.Shape.{Shaped}
 use Rattle.table.proofs.Shapes.{shaped-told}

@@ -3,7 +3,7 @@ use borrow.Author.Needs.{needs}
 use mathlib.Core.Path.{_∙_}
 use Prim.Native.Nat.{_+_}
 use lib.ListN.{getD}
-use Rattle.words.proofs.Pasted.{part-is}
+use Rattle.ranges.proofs.Slices.{part-is}
 use Rattle.shown.specs.Form.{commitmentIn}
 use Rattle.shown.proofs.items.commitment_at.Statement.{statement}
 use Rattle.shown.proofs.items.commitment_at.Tie as tie

@@ -4,7 +4,7 @@ use borrow.Author.Tests.{ltb-true, ltb-false}
 use native.Mathlib.Omega.{arith}
 use mathlib.Core.Path.{sym}
 use mathlib.Core.Logic.{inl, inr, ⊎-elim}
-use Rattle.words.proofs.Slices.{bytewise}
+use Rattle.ranges.proofs.Slices.{bytewise}
 use Rattle.shown.proofs.Keyed.{item-short, item-range, item-cut, item-after}
 use Rattle.shown.proofs.items.item_after.Statement.{statement}
 use Rattle.shown.proofs.items.item_after.Tie as tie

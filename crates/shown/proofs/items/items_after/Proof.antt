@@ -9,7 +9,7 @@ use Rattle.paper.specs.Layout.{times}
 use Rattle.paper.specs.Shows.{itemField}
 use Rattle.paper.specs.Bytes.{Bytewise}
 use Rattle.paper.proofs.Proofs.{item-lawful}
-use Rattle.words.proofs.Slices.{bytewise}
+use Rattle.ranges.proofs.Slices.{bytewise}
 use Rattle.fields.specs.After.{afterAt}
 use Rattle.fields.proofs.Behind.{after-within, loop-on, loop-stop, loop-end}
 use Rattle.shown.proofs.items.items_after.Statement.{statement}

@@ -6,7 +6,7 @@ use Rattle.paper.specs.Layout.{times}
 use Rattle.paper.specs.Shows.{itemField}
 use Rattle.paper.proofs.Layouts.{times-lawful}
 use Rattle.paper.proofs.Proofs.{item-lawful}
-use Rattle.words.proofs.Slices.{bytewise}
+use Rattle.ranges.proofs.Slices.{bytewise}
 use Rattle.fields.specs.After.{afterAt}
 use Rattle.fields.specs.declared.After.the-variants.{At}
 use Rattle.fields.proofs.Behind.{after-within}

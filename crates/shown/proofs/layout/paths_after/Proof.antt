@@ -13,7 +13,7 @@ use Rattle.paper.specs.Path as P
 use Rattle.paper.specs.Bytes.{Bytes, Bytewise}
 use Rattle.paper.proofs.Lists.{not-both}
 use Rattle.paper.proofs.Proofs.{path-lawful}
-use Rattle.words.proofs.Slices.{bytewise}
+use Rattle.ranges.proofs.Slices.{bytewise}
 use Rattle.fields.specs.After.{afterOf, afterAt}
 use Rattle.fields.specs.declared.After.the-variants.{At, Nowhere}
 use Rattle.fields.proofs.Behind.{after-within, loop-on, loop-stop, loop-end}

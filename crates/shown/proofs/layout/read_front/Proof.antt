@@ -5,7 +5,7 @@ use native.Mathlib.Omega.{arith}
 use mathlib.Core.Path.{sym, _∙_}
 use lib.Seq.{length-take-le}
 use Rattle.paper.specs.Bytes.{Bytewise}
-use Rattle.words.proofs.Slices.{bytewise}
+use Rattle.ranges.proofs.Slices.{bytewise}
 use Rattle.shown.proofs.Fronts.{front-short, front-other, front-large, front-good}
 use Rattle.shown.proofs.layout.read_front.Statement.{statement}
 use Rattle.shown.proofs.layout.read_front.Tie as tie

@@ -4,7 +4,7 @@ use borrow.Author.Tests.{not-true, not-false}
 use native.Mathlib.Omega.{arith}
 use mathlib.Core.Path.{sym, _∙_, subst}
 use Prim.Native.Nat.{_≤_}
-use Rattle.words.proofs.Slices.{bytewise}
+use Rattle.ranges.proofs.Slices.{bytewise}
 use Rattle.shown.proofs.Walked.{step-bad, step-root, step-rule, step-on, nodes-few}
 use Rattle.shown.proofs.walks.step.Statement.{statement}
 use Rattle.shown.proofs.walks.step.Tie as tie

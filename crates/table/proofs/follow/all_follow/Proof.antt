@@ -9,7 +9,7 @@ use Prim.Native.Nat.{_-_, _≤_}
 use lib.ListN.{length}
 use Rattle.paper.specs.Bytes.{Bytewise}
 use Rattle.record.specs.Places.{Stands}
-use Rattle.words.proofs.Slices.{bytewise}
+use Rattle.ranges.proofs.Slices.{bytewise}
 use Rattle.table.specs.Index.{Indexed}
 use Rattle.table.proofs.Formed.{formed, formed-stands}
 use Rattle.table.proofs.Walk.{stands-more}

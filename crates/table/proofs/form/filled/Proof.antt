@@ -3,7 +3,7 @@ use borrow.Author.Needs.{needs}
 use native.Mathlib.Omega.{arith}
 use mathlib.Core.Path.{sym, _∙_}
 use mathlib.Core.Logic.{inl, inr}
-use Rattle.words.proofs.Slices.{bytewise}
+use Rattle.ranges.proofs.Slices.{bytewise}
 use Rattle.table.proofs.Formed.{filled-out, filled-rest}
 use Rattle.table.proofs.form.filled.Statement.{statement}
 use Rattle.table.proofs.form.filled.Tie as tie

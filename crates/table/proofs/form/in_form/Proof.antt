@@ -7,7 +7,7 @@ use mathlib.Core.Logic.{inl, inr}
 use mathlib.Core.Bool.{true}
 use Rattle.paper.specs.Bytes.{Bytewise}
 use Rattle.paper.specs.Fields.{isName}
-use Rattle.words.proofs.Slices.{bytewise}
+use Rattle.ranges.proofs.Slices.{bytewise}
 use Rattle.table.proofs.Formed.{nameFormed, keyFormed, formed-nameless, formed-keyless, formed-out, formed-name, stands-by}
 use Rattle.table.proofs.form.in_form.Statement.{statement}
 use Rattle.table.proofs.form.in_form.Tie as tie

@@ -36,7 +36,7 @@ use Rattle.tree_path.proofs.walk.has_prefix.Reads as has-prefix-reads
 use Rattle.tree_path.proofs.write.write_leaf.Reads as write-leaf-reads
 use Rattle.tree_path.proofs.write.write_node.Reads as write-node-reads
 use Rattle.tree_path.proofs.write.write_step.Reads as write-step-reads
-use Rattle.words.proofs.digest_at.Reads as digest-at-reads
+use Rattle.ranges.proofs.digest_at.Reads as digest-at-reads
 use Rattle.tree_path.proofs.write.+write_below.{statement}
 use Rattle.tree_path.proofs.write.+write_below.Tie.{close}
 

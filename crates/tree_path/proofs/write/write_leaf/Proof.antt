@@ -11,7 +11,7 @@ use Rattle.paper.specs.Strings.{Node}
 use Rattle.paper.specs.Tree.{key}
 use Rattle.paper.specs.Path.{sameBits, endAt}
 use Rattle.paper.specs.Level.{entryLeaf}
-use Rattle.words.proofs.Pasted.{length-part}
+use Rattle.ranges.proofs.Slices.{length-part}
 use Rattle.tree.proofs.Rising.{all-at}
 use Rattle.tree_path.specs.Written.{endBytes, Wrote}
 use Rattle.tree_path.proofs.Ends.{leaf-this, leaf-other}

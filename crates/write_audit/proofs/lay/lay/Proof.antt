@@ -10,7 +10,7 @@ use Rattle.paper.specs.Tree.{root}
 use Rattle.paper.specs.Write.{belowRoot}
 use Rattle.paper.specs.Level.{leavesIn}
 use Rattle.paper.proofs.Honest.{LeafSet}
-use Rattle.words.proofs.Slices.{bytewise}
+use Rattle.ranges.proofs.Slices.{bytewise}
 use Rattle.tree_path.proofs.There.{leaf-set}
 use Rattle.audit_form.proofs.Form.{ListStands}
 use Rattle.write_audit.specs.Audited.{newWith}

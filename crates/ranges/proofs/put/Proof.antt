@@ -1,4 +1,4 @@
--- `words::put`: after i turns the first i bytes of `src` are laid over `dst`.
+-- `ranges::put`: after i turns the first i bytes of `src` are laid over `dst`.
 use borrow.Author.Needs.{needs}
 use native.Mathlib.Omega.{arith}
 use mathlib.Core.Path.{_≡_, refl, sym, ap, _∙_}
@@ -6,9 +6,9 @@ use Prim.Native.Nat.{_+_, _-_, _≤_}
 use native.Mathlib.Numerals.{add-one}
 use lib.ListN.{length, getD, set, length-set}
 use lib.Seq.{paste, paste-zero, paste-suc}
-use Rattle.words.proofs.Pasted.{paste-all}
-use Rattle.words.proofs.put.Statement.{statement}
-use Rattle.words.proofs.put.Tie as tie
+use Rattle.paper.proofs.Pasted.{paste-all}
+use Rattle.ranges.proofs.put.Statement.{statement}
+use Rattle.ranges.proofs.put.Tie as tie
 
 abbrev Inv-loop : tie.InvT-loop
 Inv-loop dst₀ at src i₀ i-end dst i = (i ≤ length src) × (i-end ≡ length src) × (length dst ≡ length dst₀) × (dst ≡ paste dst₀ at src i)

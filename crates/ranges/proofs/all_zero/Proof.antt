@@ -1,4 +1,4 @@
--- `words::all_zero`: the bytes passed were zero, so the rest decides.
+-- `ranges::all_zero`: the bytes passed were zero, so the rest decides.
 use borrow.Author.Needs.{needs}
 use native.Mathlib.Omega.{arith}
 use mathlib.Core.Path.{_≡_, refl, sym, _∙_}
@@ -7,9 +7,9 @@ use lib.Dec.{eqb}
 use lib.ListN.{length, getD, drop}
 use borrow.Author.Tests.{eq-eqb, ne-eqb}
 use Rattle.paper.specs.Lists.{every}
-use Rattle.words.proofs.Compare.{every-none, every-pass, every-fail}
-use Rattle.words.proofs.all_zero.Statement.{statement}
-use Rattle.words.proofs.all_zero.Tie as tie
+use Rattle.ranges.proofs.Compare.{every-none, every-pass, every-fail}
+use Rattle.ranges.proofs.all_zero.Statement.{statement}
+use Rattle.ranges.proofs.all_zero.Tie as tie
 
 abbrev Inv-loop : tie.InvT-loop
 Inv-loop s i₀ i-end i = (i ≤ length s) × (i-end ≡ length s) × (every (λ b. eqb b 0) s ≡ every (λ b. eqb b 0) (drop i s))

@@ -1,12 +1,13 @@
--- `words::digest_at`: the part fills the array.
+-- `ranges::digest_at`: the part fills the array.
 use borrow.Author.Needs.{needs}
 use native.Mathlib.Omega.{arith}
 use mathlib.Core.Path.{ap, _∙_}
 use lib.ListN.{take, drop}
 use Rattle.paper.specs.Bytes.{pasted, zeros}
-use Rattle.words.proofs.Pasted.{part-is, length-part, pasted-end}
-use Rattle.words.proofs.digest_at.Statement.{statement}
-use Rattle.words.proofs.digest_at.Tie as tie
+use Rattle.paper.proofs.Pasted.{pasted-end}
+use Rattle.ranges.proofs.Slices.{part-is, length-part}
+use Rattle.ranges.proofs.digest_at.Statement.{statement}
+use Rattle.ranges.proofs.digest_at.Tie as tie
 
 returns : tie.Need-returns
 returns c =

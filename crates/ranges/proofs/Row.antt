@@ -5,7 +5,7 @@ use Prim.Native.Nat.{ℕ, zero, suc, _+_, _≤_}
 use native.Mathlib.Omega.{arith}
 use lib.ListN.{length, take, replicate, length-append, length-replicate}
 use Rattle.paper.specs.Bytes.{Bytes, pasted}
-use Rattle.words.proofs.Pasted.{pasted-none, pasted-end, pasted-front, pasted-reach, pasted-pasted}
+use Rattle.paper.proofs.Pasted.{pasted-none, pasted-end, pasted-front, pasted-reach, pasted-pasted}
 
 -- strings and their places
 abbrev pub Parts : Type 0

@@ -1,4 +1,4 @@
--- `words::same`: strings that differ in length or at a place are not the same; those that agree at each place are.
+-- `ranges::same`: strings that differ in length or at a place are not the same; those that agree at each place are.
 use borrow.Author.Needs.{needs}
 use native.Mathlib.Omega.{arith}
 use mathlib.Core.Path.{_≡_, refl, ap, sym}
@@ -7,9 +7,9 @@ use lib.ListN.{length, getD}
 use lib.Seq.{ext-getD}
 use borrow.Author.Count.{below-none, below-more}
 use Rattle.paper.proofs.Bytes.{eq-same}
-use Rattle.words.proofs.Compare.{not-same}
-use Rattle.words.proofs.same.Statement.{statement}
-use Rattle.words.proofs.same.Tie as tie
+use Rattle.ranges.proofs.Compare.{not-same}
+use Rattle.ranges.proofs.same.Statement.{statement}
+use Rattle.ranges.proofs.same.Tie as tie
 
 abbrev Inv-loop : tie.InvT-loop
 Inv-loop a b i₀ i-end i = (i ≤ length a) × (i-end ≡ length a) × (length a ≡ length b) × ((k : ℕ) → k < i → getD a k 0 ≡ getD b k 0)
