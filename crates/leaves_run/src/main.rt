@@ -30,22 +30,29 @@ fn sample(part: u8, n: u8) -> [u8; 32] {
     bytes
 }
 
-// What holds a number of 32 bits: a leaf, a head, and bytes that it is written to, from which
-// numbers are read, at its own place and at others.
+// What holds a number of 32 bits: a leaf and a head.
 fn epoch(n: u8, e: u32) {
-    show(b"leaf ", &nodes::leaf(&sample(1, n), &sample(2, n), e));
-    show(
-        b"head ",
-        &heads::head(e, &sample(1, n), &sample(2, n), &sample(3, n)),
-    );
+    let first = sample(1, n);
+    let second = sample(2, n);
+    show(b"leaf ", &nodes::leaf(&first, &second, e));
+    show(b"head ", &heads::head(e, &first, &second, &sample(3, n)));
+    number(e);
+}
+
+// Bytes that a number is written to, from which numbers are read, at its own place and at others.
+fn number(e: u32) {
     let mut bytes = [0xEEu8; 9];
     words::write32(&mut bytes, 1, e);
     words::write16(&mut bytes, 6, (e % 65536) as u16);
     show(b"written ", &bytes);
-    show_number(b"read32 ", words::read32(&bytes, 1) as u64);
-    show_number(b"read32 ", words::read32(&bytes, 4) as u64);
-    show_number(b"read16 ", words::read16(&bytes, 0) as u64);
-    show_number(b"read16 ", words::read16(&bytes, 6) as u64);
+    numbers(&bytes);
+}
+
+fn numbers(bytes: &[u8; 9]) {
+    show_number(b"read32 ", words::read32(bytes, 1) as u64);
+    show_number(b"read32 ", words::read32(bytes, 4) as u64);
+    show_number(b"read16 ", words::read16(bytes, 0) as u64);
+    show_number(b"read16 ", words::read16(bytes, 6) as u64);
 }
 
 fn epochs() {
@@ -65,18 +72,12 @@ fn epochs() {
 
 // An inner node, and the two nodes above a child.
 fn node(n: u8, length: u16) {
-    show(
-        b"inner ",
-        &nodes::inner(length, &sample(1, n), &sample(2, n), &sample(3, n)),
-    );
-    show(
-        b"below 0 ",
-        &nodes::join(false, length, &sample(1, n), &sample(2, n), &sample(3, n)),
-    );
-    show(
-        b"below 1 ",
-        &nodes::join(true, length, &sample(1, n), &sample(2, n), &sample(3, n)),
-    );
+    let a = sample(1, n);
+    let b = sample(2, n);
+    let c = sample(3, n);
+    show(b"inner ", &nodes::inner(length, &a, &b, &c));
+    show(b"below 0 ", &nodes::join(false, length, &a, &b, &c));
+    show(b"below 1 ", &nodes::join(true, length, &a, &b, &c));
 }
 
 fn nodes() {
@@ -162,6 +163,11 @@ fn compare(a: &[u8], b: &[u8]) {
 }
 
 fn comparisons() {
+    compare_letters();
+    compare_zeros();
+}
+
+fn compare_letters() {
     compare(b"", b"");
     compare(b"", b"a");
     compare(b"a", b"");
@@ -170,6 +176,9 @@ fn comparisons() {
     compare(b"ab", b"a");
     compare(b"ab", b"aa");
     compare(b"ab", b"bb");
+}
+
+fn compare_zeros() {
     compare(b"\x00", b"\x00\x00");
     compare(b"\x00\x00", b"\x00\x01");
     compare(b"\x00\x01", b"\x00\x01");
