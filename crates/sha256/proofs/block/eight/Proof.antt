@@ -1,8 +1,23 @@
 -- `sha256::block::eight` meets its contract: a round after the other. Assumes nothing.
+use mathlib.Core.Path.{_≡_}
+use Prim.Native.Nat.{ℕ, _+_, _<_}
+use native.Mathlib.Omega.{arith}
+use lib.Dec.{lit<}
+use mir.Syntax.{w64}
+use mir.Val.{Fits}
 use borrow.Author.Needs.{needs}
+use Rattle.fips.specs.Words.{K}
 use Rattle.sha256.proofs.Turns.{rounds-eight}
 use Rattle.sha256.proofs.block.eight.Statement.{statement}
 use Rattle.sha256.proofs.block.eight.Tie as tie
+
+-- the round behind the i-th is one of the 64
+module _ (a : tie.Start) (i : ℕ) (h : i < 8) where
+  fits : Fits w64 (a .args .t + i)
+  fits = record { fits = omega (arith, a .pre .0) }
+
+  asked : (a .args .t + i < 64) × (a .args .k .now ≡ K)
+  asked = (omega (arith, a .pre .0), a .pre .1)
 
 returns : tie.Need-returns
 returns c x =
@@ -22,18 +37,18 @@ eight-spec =
     tie.close
     (tie.spec
     (λ c κs. search needs)
-    (λ c. search needs)
-    (λ c κs. search needs)
-    (λ c. search needs)
-    (λ c κs. search needs)
-    (λ c. search needs)
-    (λ c κs. search needs)
-    (λ c. search needs)
-    (λ c κs. search needs)
-    (λ c. search needs)
-    (λ c κs. search needs)
-    (λ c. search needs)
-    (λ c κs. search needs)
-    (λ c. search needs)
-    (λ c κs. search needs)
+    (λ c. fits (c .before) 1 (lit< tt))
+    (λ c κs. asked (c .before) 1 (lit< tt))
+    (λ c. fits (c .before .before) 2 (lit< tt))
+    (λ c κs. asked (c .before .before) 2 (lit< tt))
+    (λ c. fits (c .before .before .before) 3 (lit< tt))
+    (λ c κs. asked (c .before .before .before) 3 (lit< tt))
+    (λ c. fits (c .before .before .before .before) 4 (lit< tt))
+    (λ c κs. asked (c .before .before .before .before) 4 (lit< tt))
+    (λ c. fits (c .before .before .before .before .before) 5 (lit< tt))
+    (λ c κs. asked (c .before .before .before .before .before) 5 (lit< tt))
+    (λ c. fits (c .before .before .before .before .before .before) 6 (lit< tt))
+    (λ c κs. asked (c .before .before .before .before .before .before) 6 (lit< tt))
+    (λ c. fits (c .before .before .before .before .before .before .before) 7 (lit< tt))
+    (λ c κs. asked (c .before .before .before .before .before .before .before) 7 (lit< tt))
     returns)
