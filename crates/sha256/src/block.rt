@@ -110,14 +110,14 @@ fn eight(s: State, k: &[u32; 64], w: &[u32; 64], t: usize) -> State
     requires { ⌜ (t + 8 ≤ 64) × (now k ≡ W.K) ⌝ }
     ensures { λ r. ⌜ ((x : State) → s ≡ S.rounds (now (w .entry)) x t → r ≡ S.rounds (now (w .entry)) x (t + 8)) ⌝ }
 {
-    let r1 = round(s, k, w, t);
-    let r2 = round(r1, k, w, t + 1);
-    let r3 = round(r2, k, w, t + 2);
-    let r4 = round(r3, k, w, t + 3);
-    let r5 = round(r4, k, w, t + 4);
-    let r6 = round(r5, k, w, t + 5);
-    let r7 = round(r6, k, w, t + 6);
-    round(r7, k, w, t + 7)
+    let mut r = round(s, k, w, t);
+    r = round(r, k, w, t + 1);
+    r = round(r, k, w, t + 2);
+    r = round(r, k, w, t + 3);
+    r = round(r, k, w, t + 4);
+    r = round(r, k, w, t + 5);
+    r = round(r, k, w, t + 6);
+    round(r, k, w, t + 7)
 }
 
 // The hash value after a block. The constants are lent, as everywhere: an array that code names as a constant is laid out anew at each use.
