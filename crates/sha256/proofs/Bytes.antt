@@ -1,5 +1,5 @@
 -- The bytes of words as the code lays them out, on plain lists. Assumes nothing.
-use mathlib.Core.Path.{_≡_, refl, sym, ap, _∙_}
+use mathlib.Core.Path.{_≡_, refl, sym, _∙_}
 use mathlib.Core.List.{List, [], _∷_, _++_}
 use Prim.Native.Nat.{ℕ, zero, suc, _+_, _-_, _*_, _/_, _%_, _^_, _≤_, _<_}
 use native.Mathlib.Numerals.{add-one}
@@ -8,6 +8,7 @@ use lib.ListN.{length, getD, take, set}
 use lib.Seq.{take-suc, take-suc-set, take-all}
 use Rattle.fips.specs.Sha256.{be32}
 
+-- the bytes of words, each word's first the most significant
 unfoldable pub bytes : List ℕ → List ℕ
 bytes [] = []
 bytes (x ∷ w) = be32 x ++ bytes w

@@ -49,17 +49,19 @@ schedule-done b w t h l e = sym (take-all t w (omega arith)) ∙ e ∙ ap (sched
 
 -- ---- the rounds
 
--- the words of two equal states
+-- states of equal words are equal
 pub states : {a b c d e f g h a′ b′ c′ d′ e′ f′ g′ h′ : ℕ}
     → a ≡ a′ → b ≡ b′ → c ≡ c′ → d ≡ d′ → e ≡ e′ → f ≡ f′ → g ≡ g′ → h ≡ h′
     → _≡_ {A = State} (record { a = a; b = b; c = c; d = d; e = e; f = f; g = g; h = h }) (record { a = a′; b = b′; c = c′; d = d′; e = e′; f = f′; g = g′; h = h′ })
 states p q r s t u v w = cc
 
+-- a round of its four sums, with the constants k that the code is lent
 pub round-made : (s : State) (k w : List ℕ) (t x y a e : ℕ) → k ≡ K → x ≡ T1 s (getD k t 0) (getD w t 0) → y ≡ T2 s → a ≡ x ⊞ y → e ≡ s .d ⊞ x
     → _≡_ {A = State} (record { a = a; b = s .a; c = s .b; d = s .c; e = e; f = s .e; g = s .f; h = s .g }) (round s (getD K t 0) (getD w t 0))
 unfolding round
 round-made s k w t x y a e p q r u v = rw (u, v, q, r, p)
 
+-- round t, after the t before it
 rounds-turn : (w : List ℕ) (x : State) {s r : State} (t u : ℕ) → u ≡ suc t → r ≡ round s (getD K t 0) (getD w t 0) → s ≡ rounds w x t → r ≡ rounds w x u
 unfolding rounds
 rounds-turn w x t u n e q = rw (n, ← q) e

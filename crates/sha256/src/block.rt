@@ -56,7 +56,7 @@ fn schedule(b: &[u8]) -> [u32; 64]
     w
 }
 
-// Step 3: T1, T2 and a round with them.
+// Step 3: T1, T2, and round t with them.
 fn t1(s: State, k: u32, w: u32) -> u32
     ensures { λ r. ⌜ r ≡ S.T1 s k w ⌝ }
 {
