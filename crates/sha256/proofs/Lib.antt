@@ -2,3 +2,4 @@
 pub mod Numbers
 pub mod Turns
 pub mod Padding
+pub mod Bytes

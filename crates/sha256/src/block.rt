@@ -10,7 +10,7 @@ use fips::State;
 use std::num::wrapping_add_u32;
 ghost use mathlib.Core.Path.{_≡_};
 ghost use Prim.Native.Nat.{_+_, _*_, _<_, _≤_};
-ghost use lib.ListN.{length, take};
+ghost use lib.ListN.{length, getD, take};
 ghost use Rattle.fips.specs.declared.State.{State};
 ghost use Rattle.fips.specs.Words as W;
 ghost use Rattle.fips.specs.Sha256 as S;
@@ -56,7 +56,7 @@ fn schedule(b: &[u8]) -> [u32; 64]
     w
 }
 
-// Step 3: T1, T2 and a round with them.
+// Step 3: T1, T2, and round t with them.
 fn t1(s: State, k: u32, w: u32) -> u32
     ensures { λ r. ⌜ r ≡ S.T1 s k w ⌝ }
 {
@@ -72,10 +72,11 @@ fn t2(s: State) -> u32
     wrapping_add_u32(big0(s.a), maj(s.a, s.b, s.c))
 }
 
-fn round(s: State, k: u32, w: u32) -> State
-    ensures { λ r. ⌜ r ≡ S.round s k w ⌝ }
+fn round(s: State, k: &[u32; 64], w: &[u32; 64], t: usize) -> State
+    requires { ⌜ (t < 64) × (now k ≡ W.K) ⌝ }
+    ensures { λ r. ⌜ r ≡ S.round s (getD W.K t 0) (getD (now (w .entry)) t 0) ⌝ }
 {
-    let x = t1(s, k, w);
+    let x = t1(s, k[t], w[t]);
     State {
         a: wrapping_add_u32(x, t2(s)),
         b: s.a,
@@ -109,14 +110,14 @@ fn eight(s: State, k: &[u32; 64], w: &[u32; 64], t: usize) -> State
     requires { ⌜ (t + 8 ≤ 64) × (now k ≡ W.K) ⌝ }
     ensures { λ r. ⌜ ((x : State) → s ≡ S.rounds (now (w .entry)) x t → r ≡ S.rounds (now (w .entry)) x (t + 8)) ⌝ }
 {
-    let r1 = round(s, k[t], w[t]);
-    let r2 = round(r1, k[t + 1], w[t + 1]);
-    let r3 = round(r2, k[t + 2], w[t + 2]);
-    let r4 = round(r3, k[t + 3], w[t + 3]);
-    let r5 = round(r4, k[t + 4], w[t + 4]);
-    let r6 = round(r5, k[t + 5], w[t + 5]);
-    let r7 = round(r6, k[t + 6], w[t + 6]);
-    round(r7, k[t + 7], w[t + 7])
+    let mut r = round(s, k, w, t);
+    r = round(r, k, w, t + 1);
+    r = round(r, k, w, t + 2);
+    r = round(r, k, w, t + 3);
+    r = round(r, k, w, t + 4);
+    r = round(r, k, w, t + 5);
+    r = round(r, k, w, t + 6);
+    round(r, k, w, t + 7)
 }
 
 // The hash value after a block. The constants are lent, as everywhere: an array that code names as a constant is laid out anew at each use.

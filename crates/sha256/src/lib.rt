@@ -7,7 +7,7 @@ use block::blocks;
 use fips::State;
 use words::constants;
 ghost use mathlib.Core.Path.{_≡_};
-ghost use Prim.Native.Nat.{_+_, _<_, _≤_};
+ghost use Prim.Native.Nat.{_+_, _-_, _*_, _/_, _%_, _^_, _<_, _≤_};
 ghost use lib.ListN.{length};
 ghost use lib.Seq.{sets};
 ghost use Rattle.fips.specs.Words as W;
@@ -66,44 +66,24 @@ fn finish(s: State, k: &[u32; 64], m: &[u8], bits: u64) -> State
     blocks(s, k, &d[0..end])
 }
 
-// The bytes of the hash value, each word's first the most significant.
+// Byte `i` of a word, the first the most significant.
+fn byte(x: u32, i: usize) -> u8
+    requires { ⌜ i < 4 ⌝ }
+    ensures { λ r. ⌜ r ≡ x / 2 ^ (24 - 8 * i) % 256 ⌝ }
+{
+    ((x >> (24 - 8 * i)) % 256) as u8
+}
+
+// The bytes of the hash value.
 fn digest(s: State) -> [u8; 32]
     ensures { λ r. ⌜ r ≡ S.digest s ⌝ }
 {
-    [
-        ((s.a >> 24) % 256) as u8,
-        ((s.a >> 16) % 256) as u8,
-        ((s.a >> 8) % 256) as u8,
-        (s.a % 256) as u8,
-        ((s.b >> 24) % 256) as u8,
-        ((s.b >> 16) % 256) as u8,
-        ((s.b >> 8) % 256) as u8,
-        (s.b % 256) as u8,
-        ((s.c >> 24) % 256) as u8,
-        ((s.c >> 16) % 256) as u8,
-        ((s.c >> 8) % 256) as u8,
-        (s.c % 256) as u8,
-        ((s.d >> 24) % 256) as u8,
-        ((s.d >> 16) % 256) as u8,
-        ((s.d >> 8) % 256) as u8,
-        (s.d % 256) as u8,
-        ((s.e >> 24) % 256) as u8,
-        ((s.e >> 16) % 256) as u8,
-        ((s.e >> 8) % 256) as u8,
-        (s.e % 256) as u8,
-        ((s.f >> 24) % 256) as u8,
-        ((s.f >> 16) % 256) as u8,
-        ((s.f >> 8) % 256) as u8,
-        (s.f % 256) as u8,
-        ((s.g >> 24) % 256) as u8,
-        ((s.g >> 16) % 256) as u8,
-        ((s.g >> 8) % 256) as u8,
-        (s.g % 256) as u8,
-        ((s.h >> 24) % 256) as u8,
-        ((s.h >> 16) % 256) as u8,
-        ((s.h >> 8) % 256) as u8,
-        (s.h % 256) as u8,
-    ]
+    let w = [s.a, s.b, s.c, s.d, s.e, s.f, s.g, s.h];
+    let mut d = [0u8; 32];
+    for i in 0..32 {
+        d[i] = byte(w[i / 4], i % 4);
+    }
+    d
 }
 
 // Section 6.2. The length in bits is taken modulo 2^64, as the definition takes it.

@@ -1,12 +1,24 @@
 -- `sha256::block::round` meets its contract: the sums of the code are those of the definition. Assumes nothing.
 use borrow.Author.Needs.{needs}
-use Rattle.fips.specs.Sha256 as S
+use Rattle.sha256.proofs.Turns.{round-made}
 use Rattle.sha256.proofs.block.round.Statement.{statement}
 use Rattle.sha256.proofs.block.round.Tie as tie
 
 returns : tie.Need-returns
-unfolding S.round
-returns c = cc
+returns c =
+    let a = c .before .before .before .before .before .before in
+    round-made (a .args .s) _ (a .args .w .now) (a .args .t) _ _ _ _ (a .pre .1) (c .before .before .before .t1 .ensures) (c .before .before .t2 .ensures) (c .before .wrapping-add-u32 .ensures) (c .wrapping-add-u322 .ensures)
 
 pub round-spec : {M : Type 1} → statement M
-round-spec = tie.close (tie.spec (λ c κs. search needs) (λ c κs. search needs) (λ c κs. search needs) (λ c κs. search needs) returns)
+round-spec =
+    tie.close
+    (tie.spec
+    (λ c. search needs)
+    (λ c. search needs)
+    (λ c. search needs)
+    (λ c. search needs)
+    (λ c κs. search needs)
+    (λ c κs. search needs)
+    (λ c κs. search needs)
+    (λ c κs. search needs)
+    returns)

@@ -1,8 +1,11 @@
 -- `sha256::block::schedule` meets its contract: its first t words are those of the definition. Assumes nothing.
 use mathlib.Core.Path.{_≡_}
-use Prim.Native.Nat.{_≤_, _-_}
+use Prim.Native.Nat.{ℕ, _≤_, _<_, _-_, _*_}
 use native.Mathlib.Omega.{arith}
+use lib.Dec.{lit≤}
 use lib.ListN.{length, take, length-set}
+use mir.Syntax.{w64}
+use mir.Val.{Fits}
 use borrow.Author.Needs.{needs}
 use Rattle.fips.specs.Sha256 as S
 use Rattle.sha256.proofs.Turns.{late, schedule-turn, schedule-done}
@@ -17,6 +20,20 @@ abbrev μ-loop : tie.MeasureT-loop
 
 loop-holds : tie.Need-loop-holds Inv-loop μ-loop
 loop-holds c = (omega arith, omega arith, omega (arith, c .first-words .ok), c .first-words .ensures)
+
+-- word t - k is one of those before word t
+module _ (c : tie.In-loop Inv-loop μ-loop) (k : ℕ) (h : k ≤ 16) where
+  abbrev t : ℕ
+  t = c .before .loop .t
+
+  behind : k ≤ t
+  behind = omega (arith, c .before .loop .inv .0)
+
+  scaled : Fits w64 ((t - k) * 4)
+  scaled = record { fits = omega (arith, c .loop-test) }
+
+  inside : t - k < 64
+  inside = omega (arith, c .loop-test)
 
 loop-again : tie.Need-loop-again Inv-loop μ-loop
 loop-again c =
@@ -37,18 +54,18 @@ schedule-spec =
     μ-loop
     (λ c κs. search needs)
     loop-holds
-    (λ c. search needs)
-    (λ c. search needs)
-    (λ c. search needs)
-    (λ c. search needs)
-    (λ c. search needs)
-    (λ c. search needs)
-    (λ c. search needs)
-    (λ c. search needs)
-    (λ c. search needs)
-    (λ c. search needs)
-    (λ c. search needs)
-    (λ c. search needs)
+    (λ c. behind c 2 (lit≤ tt))
+    (λ c. scaled c 2 (lit≤ tt))
+    (λ c. inside c 2 (lit≤ tt))
+    (λ c. behind c 7 (lit≤ tt))
+    (λ c. scaled c 7 (lit≤ tt))
+    (λ c. inside c 7 (lit≤ tt))
+    (λ c. behind c 15 (lit≤ tt))
+    (λ c. scaled c 15 (lit≤ tt))
+    (λ c. inside c 15 (lit≤ tt))
+    (λ c. behind c 16 (lit≤ tt))
+    (λ c. scaled c 16 (lit≤ tt))
+    (λ c. inside c 16 (lit≤ tt))
     (λ c κs. search needs)
     (λ c. search needs)
     (λ c. search needs)
