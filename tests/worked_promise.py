@@ -12,7 +12,10 @@ from directory import Directory, label, sha
 
 NAME = b"ida"
 KEYS = [(b"first", bytes([7] * 32)), (b"second", bytes([8] * 32))]
-UNFOLDING = "F.mix F.schedule F.round F.rounds F.compress F.be64 F.zeros F.pad F.parse F.hash F.digest F.sha256 be toBits bitsOf fromBits pack leafString innerString nothingString headBytes headString labelString commitmentString"
+UNFOLDING = (
+    "F.be64 F.zeros F.pad F.parse F.digest be toBits bitsOf fromBits pack "
+    "leafString innerString nothingString headBytes headString labelString commitmentString"
+)
 
 
 def values():
@@ -47,7 +50,7 @@ def main():
     with open(template) as f:
         text = f.read()
     known = values()
-    block = r"abbrev pub \1 : Bytes\n\1 = @\1@\n\npub \1-is : F.sha256 (\2) ≡ \1\nunfolding %s\n\1-is = refl\n" % UNFOLDING
+    block = r"abbrev pub \1 : Bytes\n\1 = @\1@\n\npub \1-is : F.sha256 (\2) ≡ \1\nunfolding %s\n\1-is = fast-is (\2)" % UNFOLDING
     text = re.sub(r"(?m)^@([a-z0-9-]+): (.*)$", block, text)
     sys.stdout.write(re.sub(r"@([a-z0-9-]+)@", lambda m: antt(known[m[1]]), text))
 
