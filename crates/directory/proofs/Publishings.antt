@@ -15,7 +15,7 @@ use Rattle.paper.specs.declared.State.{State}
 use Rattle.paper.specs.declared.StartAnswer.the-variants as S
 use Rattle.paper.specs.declared.PublishAnswer.the-variants as P
 use Rattle.paper.proofs.Success.{outcome}
-use Rattle.promises.specs.Kept.{begun, Begins, stateAfter, GoesOn, openedBy, opened, Opens}
+use Rattle.directory.specs.Begun.{begun, Begins, stateAfter, GoesOn, openedBy, opened, Opens}
 
 left-started : (lab : Labelling) (records heads : Bytes) → Bytewise records → Bytewise heads → recordsWithin records ≡ true
     → (x : Started) → x ≡ start lab heads → (s : State) → x .answer ≡ S.Started s → Left lab records (x .heads) s

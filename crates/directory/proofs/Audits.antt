@@ -18,10 +18,10 @@ use Rattle.paper.specs.declared.WriteAnswer.the-variants as W
 use Rattle.paper.specs.declared.AuditAnswer.the-variants as A
 use Rattle.paper.proofs.Lists.{and-both}
 use Rattle.paper.proofs.Demand2.{audit-accepted}
-use Rattle.promises.specs.Own.{directory, auditAnswer}
+use Rattle.directory.specs.Own.{directory, auditAnswer}
 use Rattle.paper.proofs.Standing.{Standing}
-use Rattle.promises.proofs.Standing.{left-stands}
-use Rattle.promises.proofs.Writers.{answers, Wrote, answered}
+use Rattle.directory.proofs.Standing.{left-stands}
+use Rattle.directory.proofs.Writers.{answers, Wrote, answered}
 
 module _ (lab : Labelling) (sized : Sized lab) {records heads : Bytes} {state : State} (left : Left lab records heads state) where
   abbrev rs : List Record

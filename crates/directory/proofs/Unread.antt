@@ -10,7 +10,7 @@ use Rattle.paper.specs.Layout.{Read, got, bad, times, parse}
 use Rattle.paper.specs.Table.{Record, recordField, recordsWithin, headsWithin, headLies, counted}
 use Rattle.paper.specs.Write.{writeRead, writeWith, writeLookup, writeHistory, writeAudit}
 use Rattle.paper.specs.declared.State.{State}
-use Rattle.promises.specs.Alike.{Alike, Previous}
+use Rattle.directory.specs.Alike.{Alike, Previous}
 
 module _ (lab : Labelling) (state : State) (out records heads records′ heads′ : Bytes) (alike : Alike state records heads records′ heads′) where
   lies : headLies heads (state .epoch) ≡ headLies heads′ (state .epoch)

@@ -1,10 +1,10 @@
--- `promises::left::opened`: a start, and then a first batch.
+-- `directory::opened`: a start, and then a first batch.
 use borrow.Author.Needs.{needs}
 use Rattle.paper.specs.Labelling.{plain}
 use Rattle.paper.specs.Publish.{Started}
-use Rattle.promises.proofs.Publishings.{opened-not, opened-left}
-use Rattle.promises.proofs.left.opened.Statement.{statement}
-use Rattle.promises.proofs.left.opened.Tie as tie
+use Rattle.directory.proofs.Publishings.{opened-not, opened-left}
+use Rattle.directory.proofs.opened.Statement.{statement}
+use Rattle.directory.proofs.opened.Tie as tie
 
 -- what the start left
 abbrev made : tie.After-slice-known3 → Started

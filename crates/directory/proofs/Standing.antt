@@ -6,7 +6,7 @@ use Rattle.paper.specs.Left.{Left}
 use Rattle.paper.specs.declared.State.{State}
 use Rattle.paper.proofs.Standing.{Standing, kept-stands}
 use Rattle.paper.proofs.Published.{left-kept}
-use Rattle.promises.specs.Own.{recordsRead, directory}
+use Rattle.directory.specs.Own.{recordsRead, directory}
 
 pub left-stands : (lab : Labelling) {records heads : Bytes} {state : State} → Left lab records heads state → Standing lab records heads state (directory records state)
 unfolding directory

@@ -1,12 +1,12 @@
--- `promises::left::begun`: one test, and then a start.
+-- `directory::begun`: one test, and then a start.
 use borrow.Author.Needs.{needs}
 use borrow.Author.Tests.{not-true, not-false}
 use mathlib.Core.Path.{sym, _∙_}
 use Rattle.paper.specs.Labelling.{plain}
 use Rattle.words.proofs.Slices.{bytewise}
-use Rattle.promises.proofs.Publishings.{unbegun, begun-left}
-use Rattle.promises.proofs.left.begun.Statement.{statement}
-use Rattle.promises.proofs.left.begun.Tie as tie
+use Rattle.directory.proofs.Publishings.{unbegun, begun-left}
+use Rattle.directory.proofs.begun.Statement.{statement}
+use Rattle.directory.proofs.begun.Tie as tie
 
 returns : tie.Need-returns
 returns c =

@@ -1,10 +1,10 @@
--- `promises::left::further`: what publishing leaves of a directory is one.
+-- `directory::further`: what publishing leaves of a directory is one.
 use borrow.Author.Needs.{needs}
 use Rattle.paper.specs.Labelling.{plain}
 use Rattle.words.proofs.Slices.{bytewise}
-use Rattle.promises.proofs.Publishings.{further-left}
-use Rattle.promises.proofs.left.further.Statement.{statement}
-use Rattle.promises.proofs.left.further.Tie as tie
+use Rattle.directory.proofs.Publishings.{further-left}
+use Rattle.directory.proofs.further.Statement.{statement}
+use Rattle.directory.proofs.further.Tie as tie
 
 returns : tie.Need-returns
 returns c =

@@ -35,10 +35,10 @@ use Rattle.paper.proofs.Records.{versions-run, runs-at}
 use Rattle.paper.proofs.Leaves.{RecordFits, own-in, version-leaf}
 use Rattle.paper.proofs.Complete.{Clear, clear, shows-leaf, paths-fit}
 use Rattle.paper.proofs.Demand2.{history-accepted}
-use Rattle.promises.specs.Own.{directory, tells, ownHistory, historyAnswer}
+use Rattle.directory.specs.Own.{directory, tells, ownHistory, historyAnswer}
 use Rattle.paper.proofs.Standing.{Standing}
-use Rattle.promises.proofs.Standing.{left-stands}
-use Rattle.promises.proofs.Writers.{answers, Wrote, answered}
+use Rattle.directory.proofs.Standing.{left-stands}
+use Rattle.directory.proofs.Writers.{answers, Wrote, answered}
 
 -- two lists by their elements: one counted from a on, the other as it stands
 map-up : {B : Type 0} (f : ℕ → B) (g : Record → B) (d : Record) (a : ℕ) (l : List Record) → ((j : ℕ) → j < length l → f (a + j) ≡ g (getD l j d)) → map f (upFrom a (length l)) ≡ map g l

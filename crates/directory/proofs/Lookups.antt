@@ -25,10 +25,10 @@ use Rattle.paper.proofs.Fit.{head-fit}
 use Rattle.paper.proofs.Leaves.{RecordFits, own-in}
 use Rattle.paper.proofs.Demand2.{lookup-accepted}
 use Rattle.paper.proofs.KeyPart.{key-accepted}
-use Rattle.promises.specs.Own.{directory, tells, ownHistory, ownLookup, lookupAnswer}
+use Rattle.directory.specs.Own.{directory, tells, ownHistory, ownLookup, lookupAnswer}
 use Rattle.paper.proofs.Standing.{Standing}
-use Rattle.promises.proofs.Standing.{left-stands}
-use Rattle.promises.proofs.Writers.{answers, Wrote, answered}
+use Rattle.directory.proofs.Standing.{left-stands}
+use Rattle.directory.proofs.Writers.{answers, Wrote, answered}
 
 -- ---- the last of a name's records
 
