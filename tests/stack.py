@@ -24,8 +24,8 @@ DEPTHS = {
     "line::decimal": 10,
     "arrange::sort": 257,
     "tree::below": 256,
-    "tree_path::walk::way_below": 256,
-    "tree_path::write::write_below": 256,
+    "tree_path::way_below": 256,
+    "write_path::write_below": 256,
     "subtrees::count::count_below": 256,
     "subtrees::write::write_below": 256,
 }

@@ -11,7 +11,7 @@ use Rattle.paper.specs.Fields.{headField, pathField}
 use Rattle.paper.specs.Shows.{Asked, Proof, proofField}
 use Rattle.paper.specs.Table.{headAt, previousHead}
 use Rattle.paper.proofs.Bytes.{be-length}
-use Rattle.tree_path.proofs.Writing.{laid-next}
+use Rattle.path_fields.proofs.Writing.{laid-next}
 use Rattle.front.specs.Front.{frontBytes, itemBytes}
 
 pub head-parts : (h : Head) → headField .bytes h ≡ be 4 (h .epoch) ++ (h .previous ++ (h .all ++ h .old))

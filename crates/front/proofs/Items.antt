@@ -21,8 +21,8 @@ use Rattle.gather.proofs.Leaves.{key-few}
 use Rattle.table.specs.Index.{lastWhere}
 use Rattle.own.specs.Own.{ownBy}
 use Rattle.own.proofs.Versions.{versions-zero, versions-yes, versions-no, versions-none, versions-last, item-none, item-last}
-use Rattle.tree_path.specs.Written.{Wrote}
-use Rattle.tree_path.proofs.Writing.{laid-next, times-append, times-one, wrote-next}
+use Rattle.path_fields.specs.Written.{Wrote}
+use Rattle.path_fields.proofs.Writing.{laid-next, times-append, times-one, wrote-next}
 use Rattle.front.specs.Front.{itemBytes, versionsFrom, itemsFrom}
 
 -- ---- one key

@@ -10,7 +10,7 @@ ghost use lib.ListN.{length};
 ghost use Rattle.paper.specs.Shows.{itemField};
 ghost use Rattle.paper.specs.Write.{itemOf};
 ghost use Rattle.record.specs.Places.{recordAt, Stands};
-ghost use Rattle.tree_path.specs.Written.{Wrote};
+ghost use Rattle.path_fields.specs.Written.{Wrote};
 ghost use Rattle.front.specs.Front.{itemsFrom, itemBytes};
 
 // How many bytes the key of record i takes.

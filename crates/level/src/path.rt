@@ -6,7 +6,7 @@ use paper::TreeAnswer;
 use tree::store;
 use tree_path::is_there;
 use tree_path::path_length;
-use tree_path::write_path;
+use write_path::write_path;
 ghost use mathlib.Core.Path.{_≡_};
 ghost use mathlib.Core.Bool.{_&&_};
 ghost use Prim.Native.Nat.{_*_, _≤_};

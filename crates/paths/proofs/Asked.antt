@@ -22,8 +22,8 @@ use Rattle.table.proofs.Own.{every-snoc}
 use Rattle.plan.specs.Asked.{placeOf, asked}
 use Rattle.plan.specs.declared.Asked.{Asked}
 use Rattle.plan.proofs.Places.{place-back}
-use Rattle.tree_path.specs.Written.{Wrote}
-use Rattle.tree_path.proofs.Writing.{times-append, times-one, wrote-next}
+use Rattle.path_fields.specs.Written.{Wrote}
+use Rattle.path_fields.proofs.Writing.{times-append, times-one, wrote-next}
 use Rattle.paths.specs.Paths.{labelOf, wanted, leavesFor, pathFor, freeFor, pathBytes, Sized, Joined, Measured}
 use Rattle.paths.specs.declared.Measure.{Measure}
 

@@ -6,12 +6,12 @@ use crate::places::paths_of;
 use forest::Grown;
 use plan::Asked;
 use plan::Place;
-use tree_path::write_path;
+use write_path::write_path;
 ghost use Prim.Native.Nat.{_+_, _≤_};
 ghost use lib.ListN.{length};
 ghost use Rattle.paper.specs.Fields.{pathField};
 ghost use Rattle.paper.specs.Level.{leavesIn};
-ghost use Rattle.tree_path.specs.Written.{Wrote};
+ghost use Rattle.path_fields.specs.Written.{Wrote};
 ghost use Rattle.paths.specs.Paths.{askedOf, wanted, pathFor, pathBytes, Trees};
 
 // The path for what is asked, in the tree of its place, at `at`: the place behind it.

@@ -25,10 +25,10 @@ use Rattle.paper.specs.declared.HistoryAnswer.the-variants as H
 use Rattle.paper.specs.declared.AuditAnswer.{AuditAnswer}
 use Rattle.paper.specs.declared.AuditAnswer.the-variants as A
 use Rattle.promises.specs.Kept.{Kept, unlessRefused, keptBy, lookupKept, keyKept, historyKept, auditKept, firstBy, first}
-use Rattle.promises.proofs.Standing.{left-stands}
-use Rattle.promises.proofs.Lookups.{lookup-wrote, lookup-kept, key-kept}
-use Rattle.promises.proofs.Histories.{history-wrote, history-kept}
-use Rattle.promises.proofs.Audits.{audit-wrote, audit-kept}
+use Rattle.directory.proofs.Standing.{left-stands}
+use Rattle.directory.proofs.Lookups.{lookup-wrote, lookup-kept, key-kept}
+use Rattle.directory.proofs.Histories.{history-wrote, history-kept}
+use Rattle.directory.proofs.Audits.{audit-wrote, audit-kept}
 
 module _ {A : Type 0} (refuse : ℕ → A) (own : A) (x w : Written) (e : x ≡ w) (n : ℕ) (s : State) where
   refused : x .answer ≡ W.Refused n s → record { answer = refuse n; out = x .out } ≡ keptBy refuse own w

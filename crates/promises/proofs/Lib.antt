@@ -1,9 +1,2 @@
--- Demand 2, the honest way, over the labelling and the definitions.
-pub mod Standing
-pub mod Writers
-pub mod Lookups
-pub mod Histories
-pub mod Audits
-pub mod Publishings
+-- Demand 2 as chains of calls, over the labelling and the definitions.
 pub mod Chains
-pub mod Unread

@@ -3,7 +3,7 @@
 use crate::kept::audit_kept;
 use crate::kept::history_kept;
 use crate::kept::lookup_kept;
-use crate::left::opened;
+use directory::opened;
 use paper::AuditAnswer;
 use paper::HistoryAnswer;
 use paper::LookupAnswer;

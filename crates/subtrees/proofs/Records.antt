@@ -24,9 +24,10 @@ use Rattle.paper.proofs.Way.{entries, build-entries}
 use Rattle.paper.proofs.Pasted.{pasted-none}
 use Rattle.ranges.proofs.Slices.{length-part}
 use Rattle.tree.proofs.Slots.{slot-wide}
-use Rattle.tree_path.specs.Written.{nodeBytes, Wrote}
+use Rattle.tree_path.specs.Measured.{nodeBytes}
+use Rattle.path_fields.specs.Written.{Wrote}
 use Rattle.tree_path.proofs.Ends.{leaf-fields, node-long}
-use Rattle.tree_path.proofs.Writing.{times-append, times-one, wrote-next, record-wrote}
+use Rattle.path_fields.proofs.Writing.{times-append, times-one, wrote-next, record-wrote}
 use Rattle.subtrees.specs.Listed.{treeBytes}
 use Rattle.subtrees.proofs.News.{no-trees, old-fork, new-fork, root-fork}
 

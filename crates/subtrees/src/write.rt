@@ -1,10 +1,10 @@
 // Writing the list of an audit into a lent output, from its count on.
 use crate::count::has_new;
 use crate::count::list_length;
+use path_fields::write_node;
 use ranges::put;
 use tree::Sides;
 use tree::fork_of;
-use tree_path::write_node;
 use words::read32;
 use words::write16;
 use words::write32;
@@ -19,7 +19,7 @@ ghost use Rattle.paper.specs.Audit.{listField};
 ghost use Rattle.paper.specs.Write.{hasNew, belowRoot};
 ghost use Rattle.paper.specs.Level.{entryLeaf, leavesIn};
 ghost use Rattle.tree.specs.Stored.{flat, Sorted, Range, Stored};
-ghost use Rattle.tree_path.specs.Written.{Wrote};
+ghost use Rattle.path_fields.specs.Written.{Wrote};
 ghost use Rattle.subtrees.specs.Listed.{treeBytes};
 
 // "Kind 0 is an unchanged leaf, .. 2 a new leaf": the kind of the first leaf.

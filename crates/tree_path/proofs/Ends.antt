@@ -19,7 +19,7 @@ use Rattle.paper.proofs.Lists.{all-take, all-drop}
 use Rattle.paper.proofs.Bytes.{be-length, be-number, pack-length, pack-bitsOf}
 use Rattle.paper.proofs.Fits.{step-fits, path-fits}
 use Rattle.ranges.proofs.Slices.{length-part}
-use Rattle.tree_path.specs.Written.{endSize, nodeBytes, endBytes, wayBytes}
+use Rattle.tree_path.specs.Measured.{endSize, nodeBytes, endBytes, wayBytes}
 
 -- ---- the parts
 

@@ -1,7 +1,6 @@
--- Laws of a label's path.
+-- Laws of a label's way.
 pub mod Labels
 pub mod Ways
 pub mod Ends
 pub mod There
-pub mod Writing
 pub mod Root

@@ -1,6 +1,6 @@
 -- The sides of a stored root, as the way from the root on finds them. Assumes nothing.
 use mathlib.Core.Path.{_≡_, refl, sym, ap, _∙_, subst}
-use mathlib.Core.Bool.{true, false}
+use mathlib.Core.Bool.{Bool, true, false, cond}
 use mathlib.Core.List.{_++_}
 use Prim.Native.Nat.{ℕ, _-_, _*_, _≤_}
 use native.Mathlib.Omega.{arith}
@@ -8,7 +8,7 @@ use lib.ListN.{length, take, drop, getD, length-take}
 use Rattle.paper.specs.Bytes.{Bytes}
 use Rattle.paper.specs.Bits.{Bits}
 use Rattle.paper.specs.Strings.{nodeString}
-use Rattle.paper.specs.Tree.{Tree, top, build, root}
+use Rattle.paper.specs.Tree.{digest, Tree, top, build, root}
 use Rattle.paper.specs.Fields.{stepField}
 use Rattle.paper.specs.Level.{leavesIn}
 use Rattle.paper.proofs.Fits.{digest-wide}
@@ -17,7 +17,7 @@ use Rattle.tree.specs.Stored.{flat, Sorted, Side, Stored}
 use Rattle.tree.specs.declared.Sides.{Sides}
 use Rattle.bit_order.proofs.Leaves.{leaves-length}
 use Rattle.tree.proofs.Halves.{before, behind, before-leaves, behind-leaves, RootHalves, root-halves}
-use Rattle.tree_path.specs.Written.{wayBytes}
+use Rattle.tree_path.specs.Measured.{wayBytes}
 use Rattle.tree_path.proofs.Ways.{turn-bytes, starts-none}
 
 -- the slots of a side
@@ -61,20 +61,19 @@ module _ (n : ℕ) (s slots : Bytes) (r : Sides) (w : Sorted n s) (h : Stored n 
   pub reach : m * 64 ≤ length slots
   reach = omega (arith, low-size, length-take (m * 64) slots)
 
-  -- the digests are 32 bytes
-  pub left-wide : length (r .left) ≡ 32
-  left-wide = ap length (low-side .node) ∙ digest-wide (nodeString (top low)) .size
+  -- the side that a label does not take
+  abbrev pub sibling : Bool → Bytes
+  sibling b = cond b (r .left) (r .right)
 
-  pub right-wide : length (r .right) ≡ 32
-  right-wide = ap length (high-side .node) ∙ digest-wide (nodeString (top high)) .size
+  sibling-digest : (b : Bool) → digest (top (cond b low high)) ≡ sibling b
+  sibling-digest true = sym (low-side .node)
+  sibling-digest false = sym (high-side .node)
+
+  pub sibling-wide : (b : Bool) → length (sibling b) ≡ 32
+  sibling-wide b = ap length (sym (sibling-digest b)) ∙ digest-wide (nodeString (top (cond b low high))) .size
 
   -- the way goes down on the side of the first bit, and the other side is its sibling
-  pub right-way : (L : Bits) → getD L 0 false ≡ true → wayBytes L (root (leavesIn n s)) ≡ stepField .bytes (record { length = 0; sibling = r .left }) ++ wayBytes L high
-  right-way L q =
-      turn-bytes L _ _ _ _ (parts .tree) 0 refl (starts-none L) true q
-      ∙ ap (λ x. stepField .bytes (record { length = 0; sibling = x }) ++ wayBytes L high) (sym (low-side .node))
-
-  pub left-way : (L : Bits) → getD L 0 false ≡ false → wayBytes L (root (leavesIn n s)) ≡ stepField .bytes (record { length = 0; sibling = r .right }) ++ wayBytes L low
-  left-way L q =
-      turn-bytes L _ _ _ _ (parts .tree) 0 refl (starts-none L) false q
-      ∙ ap (λ x. stepField .bytes (record { length = 0; sibling = x }) ++ wayBytes L low) (sym (high-side .node))
+  pub turned : (L : Bits) (b : Bool) → getD L 0 false ≡ b → wayBytes L (root (leavesIn n s)) ≡ stepField .bytes (record { length = 0; sibling = sibling b }) ++ wayBytes L (cond b high low)
+  turned L b q =
+      turn-bytes L _ _ _ _ (parts .tree) 0 refl (starts-none L) b q
+      ∙ ap (λ x. stepField .bytes (record { length = 0; sibling = x }) ++ wayBytes L (cond b high low)) (sibling-digest b)

@@ -22,8 +22,8 @@ use Rattle.tree.specs.Stored.{Sorted, Range}
 use Rattle.bit_order.proofs.Leaves.{leaves-long}
 use Rattle.tree.proofs.Leaves.{long-short, leaves-some, bare, single}
 use Rattle.bit_order.proofs.Order.{rising-ordered}
-use Rattle.tree_path.specs.declared.walk.Way.{Way}
-use Rattle.tree_path.specs.Written.{wayOf, endBytes, wayBytes}
+use Rattle.tree_path.specs.declared.Way.{Way}
+use Rattle.tree_path.specs.Measured.{wayOf, endBytes, wayBytes}
 
 -- ---- no leaf, and one
 

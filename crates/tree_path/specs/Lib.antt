@@ -1,2 +1,2 @@
--- What the contracts of a label's path cite.
-pub mod Written
+-- What the contracts of a label's way cite.
+pub mod Measured

@@ -25,9 +25,9 @@ use Rattle.paper.proofs.Audited.{list-order, list-fit}
 use Rattle.ranges.proofs.Slices.{length-part}
 use Rattle.tree.specs.Stored.{Sorted, Stored}
 use Rattle.tree.specs.declared.Sides.{Sides}
-use Rattle.tree_path.specs.Written.{Wrote}
+use Rattle.path_fields.specs.Written.{Wrote}
 use Rattle.tree_path.proofs.Root as Root
-use Rattle.tree_path.proofs.Writing.{laid-next}
+use Rattle.path_fields.proofs.Writing.{laid-next}
 use Rattle.subtrees.proofs.News.{root-few}
 use Rattle.subtrees.proofs.Records.{list-size}
 use Rattle.front.proofs.Front.{head-parts, previous-some}

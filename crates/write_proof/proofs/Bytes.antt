@@ -24,8 +24,8 @@ use Rattle.plan.proofs.Rows.{asked-length}
 use Rattle.plan.specs.Asked.{markersOf}
 use Rattle.own.specs.Own.{ownBy}
 use Rattle.own.proofs.Versions.{version-none, version-last}
-use Rattle.tree_path.specs.Written.{Wrote}
-use Rattle.tree_path.proofs.Writing.{laid-next}
+use Rattle.path_fields.specs.Written.{Wrote}
+use Rattle.path_fields.proofs.Writing.{laid-next}
 use Rattle.paths.specs.Paths.{askedBy, askedOf, freeFor, pathBytes}
 use Rattle.paths.specs.declared.Plan.{Plan}
 use Rattle.front.specs.Front.{frontBytes, itemBytes, itemsFrom}

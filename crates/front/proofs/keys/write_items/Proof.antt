@@ -8,7 +8,7 @@ use lib.ListN.{length}
 use Rattle.paper.specs.Labelling.{plain}
 use Rattle.paper.specs.Write.{versionsBy}
 use Rattle.record.specs.Places.{recordsIn}
-use Rattle.tree_path.specs.Written.{Wrote}
+use Rattle.path_fields.specs.Written.{Wrote}
 use Rattle.front.specs.Front.{itemBytes, itemsFrom}
 use Rattle.front.proofs.Items.{wrote-start, long-yes, wrote-yes, long-no, bytes-no, bytes-room}
 use Rattle.front.proofs.keys.write_items.Statement.{statement}

@@ -27,7 +27,7 @@ use Rattle.level.proofs.path.is_in_the_way.Reads as is-in-the-way-reads
 use Rattle.level.proofs.root.slots.Reads as slots-reads
 use Rattle.tree.proofs.store.Reads as store-reads
 use Rattle.tree_path.proofs.path_length.Reads as path-length-reads
-use Rattle.tree_path.proofs.write_path.Reads as write-path-reads
+use Rattle.write_path.proofs.write_path.Reads as write-path-reads
 
 -- src/path.rt:36:9
 arrange-requires : tie.Need-arrange-requires

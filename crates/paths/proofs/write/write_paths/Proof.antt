@@ -9,7 +9,7 @@ use lib.Seq.{take-length}
 use Rattle.paper.specs.Fields.{pathField}
 use Rattle.paper.specs.Level.{leavesIn}
 use Rattle.paper.specs.Shows as P
-use Rattle.tree_path.specs.Written.{Wrote}
+use Rattle.path_fields.specs.Written.{Wrote}
 use Rattle.paths.specs.Paths.{askedOf, wanted, pathFor, pathBytes}
 use Rattle.paths.proofs.Asked.{wanted-back, wrote-none, bytes-room, wrote-more}
 use Rattle.paths.proofs.write.write_paths.Statement.{statement}

@@ -16,7 +16,8 @@ use Rattle.tree.proofs.Leaves.{single}
 use Rattle.tree.proofs.Slots.{slot-wide}
 use Rattle.tree.proofs.Halves.{before, behind, Halves, halves, before-sorted, behind-sorted}
 use Rattle.tree.proofs.Flat.{slots-size, low-slots, the-slot, high-slots}
-use Rattle.tree_path.specs.Written.{nodeBytes, Wrote}
+use Rattle.tree_path.specs.Measured.{nodeBytes}
+use Rattle.path_fields.specs.Written.{Wrote}
 use Rattle.tree_path.proofs.Ends.{node-long}
 use Rattle.subtrees.specs.Listed.{treeBytes}
 use Rattle.subtrees.proofs.News.{tree-new}
@@ -29,7 +30,7 @@ use Rattle.subtrees.proofs.write.+write_below.Lts-write_below as write-
 use Rattle.subtrees.proofs.count.has_new.Reads as has-new-reads
 use Rattle.subtrees.proofs.write.write_leaf.Reads as write-leaf-reads
 use Rattle.tree.proofs.fork_of.Reads as fork-of-reads
-use Rattle.tree_path.proofs.write_node.Reads as write-node-reads
+use Rattle.path_fields.proofs.write_node.Reads as write-node-reads
 use Rattle.subtrees.proofs.write.+write_below.{statement}
 use Rattle.subtrees.proofs.write.+write_below.Tie.{close}
 

@@ -1,0 +1,119 @@
+-- Lookups from what publishing left: accepted at the epoch's head, with the directory's own version and key. Assumes nothing.
+use mathlib.Core.Path.{_≡_, refl, sym, ap, _∙_, subst}
+use mathlib.Core.Logic.{inl, inr}
+use mathlib.Core.Bool.{true, not, _||_}
+use mathlib.Core.List.{List, [], _∷_, map}
+use Prim.Native.Nat.{ℕ, zero, suc, _≤_}
+use native.Mathlib.Omega.{arith}
+use lib.ListN.{length, take}
+use Rattle.paper.specs.Lists.{_∈_, every}
+use Rattle.paper.specs.Bytes.{Bytes, pasted}
+use Rattle.paper.specs.Labelling.{Labelling, Sized}
+use Rattle.paper.specs.Fields.{isName}
+use Rattle.paper.specs.Shows.{Asked, Proof, labelAt}
+use Rattle.paper.specs.Lookup.{lookupAsked, lookupField, lookupStrings, lookupGives, checkLookup, acceptedKey}
+use Rattle.paper.specs.Table.{Record, headAt, lastVersion, holds}
+use Rattle.paper.specs.Write.{itemOf, lastItem, versionsBy, leavesAt, unclashed, lookupProof, writeLookup}
+use Rattle.paper.specs.Left.{Left}
+use Rattle.paper.specs.Arrow.{lastTold}
+use Rattle.paper.specs.declared.State.{State}
+use Rattle.paper.specs.declared.WriteAnswer.the-variants as W
+use Rattle.paper.proofs.Lists.{all-in, and-both}
+use Rattle.paper.proofs.Strings.{HeadSized}
+use Rattle.paper.proofs.Fits.{head-fits, digest-wide}
+use Rattle.paper.proofs.Fit.{head-fit}
+use Rattle.paper.proofs.Leaves.{RecordFits, own-in}
+use Rattle.paper.proofs.Demand2.{lookup-accepted}
+use Rattle.paper.proofs.KeyPart.{key-accepted}
+use Rattle.directory.specs.Own.{directory, tells, ownHistory, ownLookup, lookupAnswer}
+use Rattle.paper.proofs.Standing.{Standing}
+use Rattle.directory.proofs.Standing.{left-stands}
+use Rattle.directory.proofs.Writers.{answers, Wrote, answered}
+
+-- ---- the last of a name's records
+
+record Last (l : List Record) : Type 0 where
+  it : Record
+  mine : it ∈ l
+  told : lastTold (map tells l) ≡ tells it
+  version : lastVersion l ≡ it .version
+  item : lastItem l ≡ itemOf it ∷ []
+
+last : (r : Record) (l : List Record) → Last (r ∷ l)
+unfolding lastTold lastVersion lastItem
+last r [] = record { it = r; mine = inl refl; told = refl; version = refl; item = refl }
+last r (q ∷ l) =
+    let w = last q l in
+    record { it = w .it; mine = inr (w .mine); told = w .told; version = w .version; item = w .item }
+
+last-version : (l : List Record) → lastVersion l ≡ lastTold (map tells l) .version
+unfolding lastTold lastVersion
+last-version [] = refl
+last-version (r ∷ l) = let w = last r l in w .version ∙ sym (ap (λ v. v .version) (w .told))
+
+module _ (lab : Labelling) (sized : Sized lab) {records heads : Bytes} {state : State} (left : Left lab records heads state) (name : Bytes) (t : ℕ) where
+  abbrev rs : List Record
+  rs = directory records state
+
+  abbrev mine : List Record
+  mine = versionsBy lab name t rs
+
+  abbrev asked : List Asked
+  asked = lookupAsked (lastVersion mine)
+
+  abbrev proof : Proof
+  proof = lookupProof lab name t rs heads
+
+  stands : Standing lab records heads state rs
+  stands = left-stands lab left
+
+  -- ---- accepted
+
+  accepted : t ≤ state .epoch → isName name ≡ true → unclashed lab name t rs asked ≡ true → checkLookup lab (headAt heads t) name (lookupField .bytes proof) ≡ lookupAnswer lab name t rs heads
+  unfolding ownLookup ownHistory
+  accepted k n u =
+      lookup-accepted lab sized stands name t k n u ∙ ap (λ v. lookupGives lab name v t (length (lookupStrings lab name proof))) (last-version mine)
+
+  head-sized : t ≤ state .epoch → HeadSized (proof .head)
+  head-sized k = head-fits _ (head-fit _ (omega (arith, stands .epochs)) (stands .previous t k) (digest-wide _) (digest-wide _))
+
+  -- the key of the last record, or the empty one
+  key-is : t ≤ state .epoch → acceptedKey (lookupAnswer lab name t rs heads) (lookupField .bytes proof) ≡ ownLookup lab name t rs .key
+  unfolding ownLookup ownHistory lastTold
+  key-is k = by mine refl
+    where
+      digests : ℕ
+      digests = length (lookupStrings lab name proof)
+
+      found : (v : ℕ) → 1 ≤ v → (r : Record) → RecordFits r → lastItem mine ≡ itemOf r ∷ [] → acceptedKey (lookupGives lab name v t digests) (lookupField .bytes proof) ≡ r .key
+      found zero h r f e = absurd (omega arith)
+      found (suc v) h r f e = key-accepted proof (itemOf r) [] (head-sized k) (f .item .most) e (suc v) t digests
+
+      by : (l : List Record) → mine ≡ l → acceptedKey (lookupGives lab name (lastTold (map tells l) .version) t digests) (lookupField .bytes proof) ≡ lastTold (map tells l) .key
+      by [] e = refl
+      by (r ∷ l) e =
+          let w = last r l in
+          let f = all-in RecordFits rs (stands .fits) (w .it) (own-in lab sized name t rs (w .it) (subst (λ m. w .it ∈ m) (sym e) (w .mine))) in
+          rw (w .told) (found (w .it .version) (f .least) (w .it) f (ap lastItem e ∙ w .item))
+
+  module _ (out : Bytes) where
+    -- ---- what the writer wrote
+
+    module _ (n : ℕ) (s : State) (written : writeLookup lab records heads state out name t .answer ≡ W.Written n s) where
+      pub lookup-wrote : Wrote lab records heads state rs out (isName name) t (λ rs. unclashed lab name t rs (lookupAsked (lastVersion (versionsBy lab name t rs)))) (λ rs. lookupField .bytes (lookupProof lab name t rs heads)) n
+      lookup-wrote = answered lab records heads state rs out (isName name) t _ _ stands n s written
+
+      -- "every lookup .. written from tables and state that publishing left is accepted at its epoch's head, with the directory's own answer"
+      pub lookup-kept : checkLookup lab (headAt heads t) name (take n (writeLookup lab records heads state out name t .out)) ≡ lookupAnswer lab name t rs heads
+      lookup-kept = let w = lookup-wrote in ap (checkLookup lab (headAt heads t) name) (w .bytes) ∙ accepted (w .reached) (w .input-good) (w .unclashed)
+
+      pub key-kept : acceptedKey (lookupAnswer lab name t rs heads) (take n (writeLookup lab records heads state out name t .out)) ≡ ownLookup lab name t rs .key
+      key-kept = let w = lookup-wrote in ap (acceptedKey (lookupAnswer lab name t rs heads)) (w .bytes) ∙ key-is (w .reached)
+
+    -- ---- and the writer does answer
+
+    -- for a name, at an epoch that is reached, with room, where no label that is to be shown absent is there
+    pub lookup-answers : isName name ≡ true → t ≤ state .epoch → every (λ a. a .there || not (holds (labelAt lab name (a .place)) (leavesAt lab name t rs (a .place)))) asked ≡ true
+        → length (lookupField .bytes proof) ≤ length out
+        → writeLookup lab records heads state out name t ≡ record { answer = W.Written (length (lookupField .bytes proof)) state; out = pasted out 0 (lookupField .bytes proof) }
+    lookup-answers i k c n = answers lab records heads state rs out (isName name) t _ _ stands i k (and-both (stands .all-distinct t k) (and-both (stands .old-distinct t k) c)) n

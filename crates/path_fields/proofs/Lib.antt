@@ -1,0 +1,2 @@
+-- Laws of fields that are written one behind the other.
+pub mod Writing

@@ -1,0 +1,2 @@
+-- What the contracts of written fields cite.
+pub mod Written
