@@ -1,5 +1,5 @@
--- SHA-256 in a form that the prover computes in a quarter of the time, and that it is SHA-256. The functions of three words take their bit
--- operations one by one, each digit by digit; here they take their digits together, and a rotation is a sum. Assumes nothing.
+-- `fast` is SHA-256, and the prover computes it four times as fast: a function of words takes the digits of all its words in one pass, where
+-- the definitions have a pass for each bit operation, and a rotation is a sum. For worked examples only. Assumes nothing.
 use mathlib.Core.Path.{_≡_, refl, sym, ap, ap₂, _∙_}
 use mathlib.Core.Bool.{Bool, true, false, cond}
 use mathlib.Core.List.{List, [], _∷_, _++_, foldl}

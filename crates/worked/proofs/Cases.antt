@@ -7,11 +7,11 @@ use Rattle.fips.specs.Sha256 as F
 use Rattle.fips.proofs.Fast.{fast-is}
 use Rattle.paper.specs.Lists.{every, keep, upFrom}
 use Rattle.paper.specs.Bytes.{Bytes, be, zeros, number, same, pasted}
-use Rattle.paper.specs.Bits.{toBits, bitsOf, fromBits, pack, starts, topPower, log2}
+use Rattle.paper.specs.Bits.{toBits, bitsOf, fromBits, pack, topPower, log2}
 use Rattle.paper.specs.Strings.{inner, nothing, nodeString, innerString, nothingString, Head, headBytes, headString, labelString}
 use Rattle.paper.specs.Labelling.{plain}
 use Rattle.paper.specs.Tree.{side, build, root, rootDigest, digest}
-use Rattle.paper.specs.Path.{none, Path, stepNode, pathTop, pathNodes, pathRoot, lastLength, absent}
+use Rattle.paper.specs.Path.{none, Path, stepNode, pathTop, pathNodes, pathRoot, absent}
 use Rattle.paper.specs.Layout.{got, block, fixed, within, seq, led, times, timesRead, such, view, never, parse}
 use Rattle.paper.specs.Fields.{isName, riseFrom, rise, endOf}
 use Rattle.paper.specs.Verdict.{verdict}
@@ -26,22 +26,23 @@ use Rattle.paper.specs.Program.{programLine, decimalIn}
 use Rattle.paper.proofs.Bytes.{eq-same}
 use Rattle.paper.proofs.Accepted.{lookup-accept, audit-accept, history-accept}
 
--- ---- the digests of a directory with no record: nothing, the root of an empty tree, the heads of epochs 0 to 2, a label
+-- ---- each digest of a directory with no record, worked out once: nothing, the root of an empty tree, the heads of epochs 0 to 2, a label
 
 abbrev empty : Bytes
 empty = 219 ∷ 193 ∷ 180 ∷ 201 ∷ 0 ∷ 255 ∷ 228 ∷ 141 ∷ 87 ∷ 91 ∷ 93 ∷ 165 ∷ 198 ∷ 56 ∷ 4 ∷ 1 ∷ 37 ∷ 246 ∷ 93 ∷ 176 ∷ 254 ∷ 62 ∷ 36 ∷ 73 ∷ 75 ∷ 118 ∷ 234 ∷ 152 ∷ 100 ∷ 87 ∷ 217 ∷ 134 ∷ []
 
 empty-is : F.sha256 (nodeString nothing) ≡ empty
-unfolding F.be64 F.zeros F.pad F.parse F.digest be fromBits pack innerString nothingString headBytes headString labelString
+unfolding F.be64 F.zeros F.pad F.parse F.digest nothingString
 empty-is = fast-is (nodeString nothing)
 
 abbrev bare : Bytes
 bare = 132 ∷ 171 ∷ 229 ∷ 2 ∷ 218 ∷ 220 ∷ 92 ∷ 132 ∷ 178 ∷ 182 ∷ 22 ∷ 237 ∷ 10 ∷ 164 ∷ 93 ∷ 136 ∷ 129 ∷ 33 ∷ 49 ∷ 120 ∷ 85 ∷ 224 ∷ 116 ∷ 1 ∷ 159 ∷ 100 ∷ 167 ∷ 231 ∷ 26 ∷ 201 ∷ 93 ∷ 0 ∷ []
 
 bare-is : F.sha256 (nodeString (inner [] empty empty)) ≡ bare
-unfolding F.be64 F.zeros F.pad F.parse F.digest be fromBits pack innerString nothingString headBytes headString labelString
+unfolding F.be64 F.zeros F.pad F.parse F.digest be fromBits pack innerString
 bare-is = fast-is (nodeString (inner [] empty empty))
 
+-- the head of an epoch without records, over the head before it
 abbrev opened : ℕ → Bytes → Head
 opened t d = record { epoch = t; previous = d; all = bare; old = bare }
 
@@ -49,21 +50,21 @@ abbrev head-0 : Bytes
 head-0 = 90 ∷ 130 ∷ 232 ∷ 110 ∷ 236 ∷ 79 ∷ 141 ∷ 195 ∷ 212 ∷ 48 ∷ 213 ∷ 125 ∷ 72 ∷ 225 ∷ 238 ∷ 59 ∷ 20 ∷ 25 ∷ 96 ∷ 46 ∷ 48 ∷ 112 ∷ 7 ∷ 62 ∷ 2 ∷ 61 ∷ 51 ∷ 155 ∷ 104 ∷ 24 ∷ 108 ∷ 132 ∷ []
 
 head-0-is : F.sha256 (headString (opened 0 (zeros 32))) ≡ head-0
-unfolding F.be64 F.zeros F.pad F.parse F.digest be fromBits pack innerString nothingString headBytes headString labelString
+unfolding F.be64 F.zeros F.pad F.parse F.digest be headBytes headString
 head-0-is = fast-is (headString (opened 0 (zeros 32)))
 
 abbrev head-1 : Bytes
 head-1 = 84 ∷ 129 ∷ 22 ∷ 33 ∷ 161 ∷ 129 ∷ 96 ∷ 95 ∷ 126 ∷ 30 ∷ 143 ∷ 182 ∷ 42 ∷ 104 ∷ 39 ∷ 88 ∷ 126 ∷ 35 ∷ 236 ∷ 0 ∷ 252 ∷ 126 ∷ 209 ∷ 201 ∷ 52 ∷ 238 ∷ 18 ∷ 101 ∷ 53 ∷ 226 ∷ 98 ∷ 189 ∷ []
 
 head-1-is : F.sha256 (headString (opened 1 head-0)) ≡ head-1
-unfolding F.be64 F.zeros F.pad F.parse F.digest be fromBits pack innerString nothingString headBytes headString labelString
+unfolding F.be64 F.zeros F.pad F.parse F.digest be headBytes headString
 head-1-is = fast-is (headString (opened 1 head-0))
 
 abbrev head-2 : Bytes
 head-2 = 131 ∷ 166 ∷ 237 ∷ 122 ∷ 123 ∷ 144 ∷ 92 ∷ 76 ∷ 49 ∷ 86 ∷ 226 ∷ 139 ∷ 107 ∷ 250 ∷ 58 ∷ 188 ∷ 241 ∷ 101 ∷ 40 ∷ 47 ∷ 190 ∷ 72 ∷ 19 ∷ 127 ∷ 112 ∷ 6 ∷ 202 ∷ 245 ∷ 43 ∷ 47 ∷ 192 ∷ 58 ∷ []
 
 head-2-is : F.sha256 (headString (opened 2 head-1)) ≡ head-2
-unfolding F.be64 F.zeros F.pad F.parse F.digest be fromBits pack innerString nothingString headBytes headString labelString
+unfolding F.be64 F.zeros F.pad F.parse F.digest be headBytes headString
 head-2-is = fast-is (headString (opened 2 head-1))
 
 abbrev anna : Bytes
@@ -73,7 +74,7 @@ abbrev label : Bytes
 label = 66 ∷ 205 ∷ 79 ∷ 185 ∷ 190 ∷ 189 ∷ 75 ∷ 243 ∷ 23 ∷ 65 ∷ 146 ∷ 146 ∷ 196 ∷ 99 ∷ 172 ∷ 211 ∷ 209 ∷ 51 ∷ 245 ∷ 94 ∷ 250 ∷ 253 ∷ 51 ∷ 77 ∷ 131 ∷ 239 ∷ 107 ∷ 86 ∷ 245 ∷ 35 ∷ 58 ∷ 43 ∷ []
 
 label-is : F.sha256 (labelString 1 1 anna) ≡ label
-unfolding F.be64 F.zeros F.pad F.parse F.digest be fromBits pack innerString nothingString headBytes headString labelString
+unfolding F.be64 F.zeros F.pad F.parse F.digest be labelString
 label-is = fast-is (labelString 1 1 anna)
 
 -- an inner node over two that are nothing
