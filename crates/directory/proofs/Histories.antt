@@ -1,13 +1,14 @@
 -- Histories from what publishing left: accepted at the epoch's head, telling each of the name's records: version, key, opening and epoch.
 -- Assumes nothing.
 use mathlib.Core.Path.{_≡_, refl, sym, ap, _∙_, subst}
-use mathlib.Core.Bool.{true, not, _||_}
+use mathlib.Core.Logic.{_⊎_, inl, inr, ⊎-elim}
+use mathlib.Core.Bool.{true}
 use mathlib.Core.List.{List, [], _∷_, map}
-use Prim.Native.Nat.{ℕ, zero, suc, _+_, _-_, _<_, _≤_}
+use Prim.Native.Nat.{ℕ, suc, _+_, _-_, _<_, _≤_}
 use native.Mathlib.Omega.{arith}
 use lib.ListN.{length, take, getD, length-map}
 use Rattle.fips.specs.Sha256.{sha256}
-use Rattle.paper.specs.Lists.{_∈_, All, every, upFrom}
+use Rattle.paper.specs.Lists.{_∈_, All, upFrom}
 use Rattle.paper.specs.Numbers.{versionMost}
 use Rattle.paper.specs.Bytes.{Bytes, pasted}
 use Rattle.paper.specs.Strings.{leaf, commitmentString}
@@ -18,27 +19,29 @@ use Rattle.paper.specs.Tree.{root}
 use Rattle.paper.specs.Fields.{isName}
 use Rattle.paper.specs.Shows.{inAll, Asked, missing, itemField, Proof, labelAt, epochAt}
 use Rattle.paper.specs.History.{historyAsked, historyField, historyStrings, checkHistory}
-use Rattle.paper.specs.Table.{Record, headAt, allAt, holds}
+use Rattle.paper.specs.Table.{Record, headAt, allAt}
 use Rattle.paper.specs.Write.{itemOf, versionsBy, leavesAt, unclashed, historyProof, writeHistory}
 use Rattle.paper.specs.Left.{Left}
-use Rattle.paper.specs.Arrow.{toldAt, toldBy, told}
+use Rattle.paper.specs.Arrow.{toldAt, toldBy, told, Collision}
 use Rattle.paper.specs.declared.State.{State}
 use Rattle.paper.specs.declared.WriteAnswer.the-variants as W
 use Rattle.paper.specs.declared.HistoryAnswer.the-variants as H
 use Rattle.paper.proofs.Lists.{all-in, in-all, and-both, all-getD, getD-map-at}
-use Rattle.paper.proofs.Asked.{version-asked}
+use Rattle.paper.proofs.Asked.{version-asked, asked-only}
 use Rattle.paper.proofs.Layouts.{parse-bytes}
 use Rattle.paper.proofs.Proofs.{history-lawful}
 use Rattle.paper.proofs.Fits.{digest-wide, ProofFits}
 use Rattle.paper.proofs.Fit.{head-fit, item-fit, proof-fit}
 use Rattle.paper.proofs.Records.{versions-run, runs-at}
-use Rattle.paper.proofs.Leaves.{RecordFits, own-in, version-leaf}
+use Rattle.paper.proofs.Leaves.{RecordFits, runs-few, own-in, version-leaf}
 use Rattle.paper.proofs.Complete.{Clear, clear, shows-leaf, paths-fit}
 use Rattle.paper.proofs.Demand2.{history-accepted}
 use Rattle.directory.specs.Own.{directory, tells, ownHistory, historyAnswer}
+use Rattle.directory.specs.Clash.{labelStrings}
 use Rattle.paper.proofs.Standing.{Standing}
 use Rattle.directory.proofs.Standing.{left-stands}
 use Rattle.directory.proofs.Writers.{answers, Wrote, answered}
+use Rattle.directory.proofs.Clashes.{Telling, gone-or-collide}
 
 -- two lists by their elements: one counted from a on, the other as it stands
 map-up : {B : Type 0} (f : ℕ → B) (g : Record → B) (d : Record) (a : ℕ) (l : List Record) → ((j : ℕ) → j < length l → f (a + j) ≡ g (getD l j d)) → map f (upFrom a (length l)) ≡ map g l
@@ -81,18 +84,17 @@ module _ (lab : Labelling) (sized : Sized lab) {records heads : Bytes} {state : 
   abbrev at : ℕ → Record
   at j = getD mine j noRecord
 
+  mine-fits : All RecordFits mine
+  mine-fits = in-all _ mine (λ r m. all-in RecordFits rs (stands .fits) r (own-in lab sized name t rs r m))
+
   at-fits : (j : ℕ) → j < length mine → RecordFits (at j)
-  at-fits j h = all-getD RecordFits mine noRecord (in-all _ mine (λ r m. all-in RecordFits rs (stands .fits) r (own-in lab sized name t rs r m))) j h
+  at-fits j h = all-getD RecordFits mine noRecord mine-fits j h
 
   at-version : (j : ℕ) → j < length mine → at j .version ≡ suc j
   at-version j h = omega (arith, runs-at 0 0 mine noRecord (omega arith) (versions-run lab name (state .epoch) t rs (stands .shape)) j h .0)
 
   few : length mine ≤ versionMost
-  few = by (length mine) refl
-    where
-      by : (n : ℕ) → length mine ≡ n → n ≤ versionMost
-      by zero e = omega arith
-      by (suc m) e = omega (arith, at-version m (omega arith), at-fits m (omega arith) .most)
+  few = runs-few mine (versions-run lab name (state .epoch) t rs (stands .shape)) mine-fits
 
   item-at : (j : ℕ) → j < length mine → getD (map itemOf mine) (suc j - 1) (record { key = []; opening = [] }) ≡ itemOf (at j)
   item-at j h =
@@ -158,8 +160,10 @@ module _ (lab : Labelling) (sized : Sized lab) {records heads : Bytes} {state : 
 
     -- ---- and the writer does answer
 
-    -- for a name, at an epoch that is reached, with room, where no label that is to be shown absent is there
-    pub history-answers : isName name ≡ true → t ≤ state .epoch → every (λ a. a .there || not (holds (labelAt lab name (a .place)) (leavesAt lab name t rs (a .place)))) plan ≡ true
-        → length (historyField .bytes proof) ≤ length out
-        → writeHistory lab records heads state out name t ≡ record { answer = W.Written (length (historyField .bytes proof)) state; out = pasted out 0 (historyField .bytes proof) }
-    history-answers i k c n = answers lab records heads state rs out (isName name) t _ _ stands i k (and-both (stands .all-distinct t k) (and-both (stands .old-distinct t k) c)) n
+    -- for a name, at an epoch that is reached, with room; or two different label strings have one digest
+    pub history-answers : Telling lab → isName name ≡ true → t ≤ state .epoch → length (historyField .bytes proof) ≤ length out
+        → (writeHistory lab records heads state out name t ≡ record { answer = W.Written (length (historyField .bytes proof)) state; out = pasted out 0 (historyField .bytes proof) })
+        ⊎ Collision (labelStrings lab name t rs plan)
+    history-answers told i k n = ⊎-elim
+        (λ c. inl (answers lab records heads state rs out (isName name) t _ _ stands i k (and-both (stands .all-distinct t k) (and-both (stands .old-distinct t k) c)) n)) inr
+        (gone-or-collide lab told name t (state .epoch) rs (stands .fits) (stands .shape) plan (asked-only (length mine) t))

@@ -1,6 +1,7 @@
 -- Demand 2, the honest way, over the labelling and the definitions.
 pub mod Standing
 pub mod Writers
+pub mod Clashes
 pub mod Lookups
 pub mod Histories
 pub mod Audits

@@ -1,34 +1,38 @@
 -- Lookups from what publishing left: accepted at the epoch's head, with the directory's own version and key. Assumes nothing.
 use mathlib.Core.Path.{_≡_, refl, sym, ap, _∙_, subst}
-use mathlib.Core.Logic.{inl, inr}
-use mathlib.Core.Bool.{true, not, _||_}
+use mathlib.Core.Logic.{_⊎_, inl, inr, ⊎-elim}
+use mathlib.Core.Bool.{true}
 use mathlib.Core.List.{List, [], _∷_, map}
 use Prim.Native.Nat.{ℕ, zero, suc, _≤_}
 use native.Mathlib.Omega.{arith}
 use lib.ListN.{length, take}
-use Rattle.paper.specs.Lists.{_∈_, every}
+use Rattle.paper.specs.Lists.{_∈_}
 use Rattle.paper.specs.Bytes.{Bytes, pasted}
 use Rattle.paper.specs.Labelling.{Labelling, Sized}
 use Rattle.paper.specs.Fields.{isName}
-use Rattle.paper.specs.Shows.{Asked, Proof, labelAt}
+use Rattle.paper.specs.Shows.{Asked, Proof}
 use Rattle.paper.specs.Lookup.{lookupAsked, lookupField, lookupStrings, lookupGives, checkLookup, acceptedKey}
-use Rattle.paper.specs.Table.{Record, headAt, lastVersion, holds}
-use Rattle.paper.specs.Write.{itemOf, lastItem, versionsBy, leavesAt, unclashed, lookupProof, writeLookup}
+use Rattle.paper.specs.Table.{Record, headAt, lastVersion}
+use Rattle.paper.specs.Write.{itemOf, lastItem, versionsBy, unclashed, lookupProof, writeLookup}
 use Rattle.paper.specs.Left.{Left}
-use Rattle.paper.specs.Arrow.{lastTold}
+use Rattle.paper.specs.Arrow.{lastTold, Collision}
 use Rattle.paper.specs.declared.State.{State}
 use Rattle.paper.specs.declared.WriteAnswer.the-variants as W
 use Rattle.paper.proofs.Lists.{all-in, and-both}
 use Rattle.paper.proofs.Strings.{HeadSized}
 use Rattle.paper.proofs.Fits.{head-fits, digest-wide}
+use Rattle.paper.proofs.Asked.{Only, lookup-only}
+use Rattle.paper.proofs.Records.{versions-run, run-count}
 use Rattle.paper.proofs.Fit.{head-fit}
 use Rattle.paper.proofs.Leaves.{RecordFits, own-in}
 use Rattle.paper.proofs.Demand2.{lookup-accepted}
 use Rattle.paper.proofs.KeyPart.{key-accepted}
 use Rattle.directory.specs.Own.{directory, tells, ownHistory, ownLookup, lookupAnswer}
+use Rattle.directory.specs.Clash.{labelStrings}
 use Rattle.paper.proofs.Standing.{Standing}
 use Rattle.directory.proofs.Standing.{left-stands}
 use Rattle.directory.proofs.Writers.{answers, Wrote, answered}
+use Rattle.directory.proofs.Clashes.{Telling, gone-or-collide}
 
 -- ---- the last of a name's records
 
@@ -112,8 +116,16 @@ module _ (lab : Labelling) (sized : Sized lab) {records heads : Bytes} {state : 
 
     -- ---- and the writer does answer
 
-    -- for a name, at an epoch that is reached, with room, where no label that is to be shown absent is there
-    pub lookup-answers : isName name ≡ true → t ≤ state .epoch → every (λ a. a .there || not (holds (labelAt lab name (a .place)) (leavesAt lab name t rs (a .place)))) asked ≡ true
-        → length (lookupField .bytes proof) ≤ length out
-        → writeLookup lab records heads state out name t ≡ record { answer = W.Written (length (lookupField .bytes proof)) state; out = pasted out 0 (lookupField .bytes proof) }
-    lookup-answers i k c n = answers lab records heads state rs out (isName name) t _ _ stands i k (and-both (stands .all-distinct t k) (and-both (stands .old-distinct t k) c)) n
+    -- for a name, at an epoch that is reached, with room; or two different label strings have one digest
+    pub lookup-answers : Telling lab → isName name ≡ true → t ≤ state .epoch → length (lookupField .bytes proof) ≤ length out
+        → (writeLookup lab records heads state out name t ≡ record { answer = W.Written (length (lookupField .bytes proof)) state; out = pasted out 0 (lookupField .bytes proof) })
+        ⊎ Collision (labelStrings lab name t rs asked)
+    lookup-answers told i k n = ⊎-elim
+        (λ c. inl (answers lab records heads state rs out (isName name) t _ _ stands i k (and-both (stands .all-distinct t k) (and-both (stands .old-distinct t k) c)) n)) inr
+        (gone-or-collide lab told name t (state .epoch) rs (stands .fits) (stands .shape) asked (λ a m. only a m))
+      where
+        count : lastVersion mine ≡ length mine
+        count = run-count mine (versions-run lab name (state .epoch) t rs (stands .shape))
+
+        only : (a : Asked) → a ∈ asked → Only (length mine) a
+        only a m = subst (λ n. Only n a) count (lookup-only (lastVersion mine) a m)

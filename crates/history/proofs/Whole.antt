@@ -9,7 +9,7 @@ use lib.ListN.{length}
 use Rattle.paper.specs.Bytes.{Bytes, Bytewise}
 use Rattle.paper.specs.Bits.{log2}
 use Rattle.paper.specs.History.{historyAsked, markersBy}
-use Rattle.plan.proofs.Markers.{by-most}
+use Rattle.paper.proofs.Asked.{by-most}
 use Rattle.plan.proofs.Rows.{asked-length}
 use Rattle.shown.specs.Walk.{walked, walks}
 use Rattle.plan.specs.declared.Place.the-variants.{InOld}

@@ -328,7 +328,7 @@ module _ (lab : Labelling) (sized : Sized lab) (name : Bytes) (t : ℕ) (rs : Li
             let e : suc (2 ^ j - 1) ≡ 2 ^ j = omega arith in
             meets-present plan c (historyTerms chronicle) (asMarker j) (at (2 ^ j - 1) .epoch) (marker-at j b)
             (eq-eqb _ _ (sym (ap (epochAt chronicle) (sym e) ∙ epoch-is (2 ^ j - 1) (omega arith))))
-        each-meets a m (not-there x) = meets-missing plan c (historyTerms chronicle) x m
+        each-meets a m (not-there x g) = meets-missing plan c (historyTerms chronicle) x m
 
         history-meets : All (λ a. meets lab name (historyTerms chronicle) a (pathFor a) ≡ true) plan
         history-meets = in-all _ plan (λ a m. each-meets a m (asked-only (length versions) t a m))

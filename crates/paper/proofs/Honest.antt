@@ -1,7 +1,7 @@
 -- The paths of an honest tree: for every label they fit the layout, give the root, and show the leaf that is there or that none is.
 -- Assumes nothing.
-use mathlib.Core.Path.{_≡_, refl, sym, ap, _∙_, subst}
-use mathlib.Core.Bool.{Bool, true, false, cond, not}
+use mathlib.Core.Path.{_≡_, refl, sym, ap, ap₂, _∙_, subst}
+use mathlib.Core.Bool.{Bool, true, false, cond, not, _||_}
 use mathlib.Core.List.{List, [], _∷_}
 use Prim.Native.Nat.{ℕ, suc, _^_, _<_, _≤_}
 use native.Mathlib.Omega.{arith}
@@ -19,7 +19,7 @@ use Rattle.paper.specs.Table.{holds, distinct}
 use Rattle.paper.proofs.Lists.{all-in, in-all, all-left, all-right, and-left, and-right, or-left, or-right, not-both}
 use Rattle.paper.proofs.Bits.{pfx-full, pfx-length, length-snoc, pfx-bit}
 use Rattle.paper.proofs.Tree.{Free, Apart, below-none, side-all, side-below, side-in, in-side, side-free}
-use Rattle.paper.proofs.Walk.{eq-sameBits}
+use Rattle.paper.proofs.Walk.{sameBits-eq, eq-sameBits, fails}
 use Rattle.paper.proofs.Fits.{Wide, digest-wide, PathFits}
 use Rattle.paper.proofs.Fit.{step-fit, EndSized, end-fit, path-fit}
 use Rattle.paper.proofs.Way.{way-top, Grown, build-grown, Down, stands, leaves, goes, way-down, way-fork, down-rise, down-count, down-fits, lastFrom, last-from, entries, IsLeaf, down-absent, build-present, build-entries}
@@ -52,6 +52,11 @@ pub held-not : (L : Bits) (S : List Node) → holds L S ≡ false → All (λ x.
 unfolding holds some
 held-not L [] e = tt
 held-not L (x ∷ S) e = (λ q. not-both (eq-sameBits (key x) L q) (or-left (sameBits (key x) L) _ e), held-not L S (or-right (sameBits (key x) L) _ e))
+
+pub not-held : (L : Bits) (S : List Node) → All (λ x. ¬ (key x ≡ L)) S → holds L S ≡ false
+unfolding holds some
+not-held L [] n = refl
+not-held L (x ∷ S) n = ap₂ _||_ (fails (sameBits (key x) L) (λ q. n .0 (sameBits-eq (key x) L q))) (not-held L S (n .1))
 
 apart : (x y : Node) → LeafSized x → LeafSized y → ¬ (key y ≡ key x) → Apart x y
 apart x y a b n = (

@@ -19,11 +19,12 @@ use Rattle.paper.specs.Labelling.{Labelling, Sized, sameName}
 use Rattle.paper.specs.Layout.{block, within, seq, led, such, view}
 use Rattle.paper.specs.Shows.{inAll, inOld, asMarker, labelAt}
 use Rattle.paper.specs.Table.{Record, recordField, byEpoch, ownRecords, leafOf, allLeaves, oldLeaves, allAt, oldAt}
-use Rattle.paper.proofs.Lists.{all-in, in-all, all-append, keep-in, keep-all, keep-passes, in-left, in-right}
+use Rattle.paper.proofs.Lists.{all-in, in-all, all-append, all-getD, keep-in, keep-all, keep-passes, in-left, in-right}
 use Rattle.paper.proofs.Bytes.{same-eq, bitsOf-length}
 use Rattle.paper.proofs.Marker.{log2-unique}
 use Rattle.paper.proofs.Fits.{Wide, digest-wide, digest-fits, epoch-fits, ItemFits}
 use Rattle.paper.proofs.Honest.{LeafSized}
+use Rattle.paper.proofs.Records.{Runs, runs-at}
 
 -- ---- what fits a record
 
@@ -48,6 +49,12 @@ record-fits r f =
         opening = digest-fits (r .opening) (g .1 .1 .1);
       };
     }
+
+-- a name has few versions
+pub runs-few : (l : List Record) → Runs 0 0 l → All RecordFits l → length l ≤ versionMost
+runs-few [] r f = omega arith
+runs-few (x ∷ l) r f =
+    omega (arith, runs-at 0 0 (x ∷ l) x (omega arith) r (length l) (omega arith) .0, all-getD RecordFits (x ∷ l) x f (length l) (omega arith) .most)
 
 pub zeros-bytes : (n : ℕ) → Bytewise (zeros n)
 zeros-bytes zero = tt

@@ -13,7 +13,7 @@ use Rattle.paper.specs.Lists.{_∈_, All, every, keep}
 use Rattle.paper.specs.Bytes.{Bytes, same}
 use Rattle.paper.specs.Labelling.{Labelling, sameName}
 use Rattle.paper.specs.Table.{Record, ownRecords, follows, inShape, byEpoch, lastVersion}
-use Rattle.paper.proofs.Lists.{and-left, and-right, all-in, every-all, keep-append, keep-one, keep-keep}
+use Rattle.paper.proofs.Lists.{and-left, and-right, all-in, in-all, every-all, keep-append, keep-one, keep-keep}
 use Rattle.paper.proofs.Bytes.{same-eq}
 
 -- versions run on from k, with epochs that rise from e on
@@ -160,6 +160,10 @@ runs-at k e (x ∷ l) d h r zero n = (omega arith, omega arith)
 runs-at k e (x ∷ l) d h r (suc i) n =
     let (a, b) = runs-at (suc k) (x .epoch) l d (omega arith) (r .2) i (omega arith) in
     (omega arith, b)
+
+pub runs-most : (k e : ℕ) (l : List Record) → Runs k e l → All (λ r. r .version ≤ k + length l) l
+runs-most k e [] r = tt
+runs-most k e (x ∷ l) r = (omega (arith, r .0), in-all _ l (λ q m. omega (arith, all-in _ l (runs-most (suc k) (x .epoch) l (r .2)) q m)))
 
 pub runs-rise : (k e : ℕ) (l : List Record) (d : Record) → Runs k e l → (i : ℕ) → suc i < length l → getD l i d .epoch < getD l (suc i) d .epoch
 runs-rise k e [] d r i n = absurd (omega arith)

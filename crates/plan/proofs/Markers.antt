@@ -2,7 +2,7 @@
 use mathlib.Core.Path.{_≡_, refl, sym, ap}
 use Prim.Native.Nat.{ℕ, zero, suc, _*_, _%_, _^_, _<_, _≤_}
 use native.Mathlib.Omega.{arith}
-use native.Mathlib.Nat.{min-eq-left, min-eq-right, min-le-left}
+use native.Mathlib.Nat.{min-eq-left, min-eq-right}
 use lib.Pow.{pow-mono, pow-pos}
 use Rattle.paper.specs.Bits.{log2}
 use Rattle.paper.specs.History.{markersBy}
@@ -35,10 +35,6 @@ by-few (suc T) h = ap suc (sym (min-eq-right {n = log2 (suc T)} {m = 9} (omega a
 pub by-many : (T : ℕ) → 10 ≤ markersOf T → 10 ≡ markersBy T
 by-many zero h = absurd (omega arith)
 by-many (suc T) h = ap suc (sym (min-eq-left {n = 9} {m = log2 (suc T)} (omega arith)))
-
-pub by-most : (T : ℕ) → markersBy T ≤ 10
-by-most zero = omega arith
-by-most (suc T) = omega (arith, min-le-left 9 (log2 (suc T)))
 
 -- r markers of n versions, and the power of two as the code has it, by a shift
 pub record Shifted (n r : ℕ) : Type 0 where

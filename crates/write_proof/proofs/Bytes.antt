@@ -15,11 +15,12 @@ use Rattle.paper.specs.Table.{previousHead, lastVersion}
 use Rattle.paper.specs.Write.{versionsBy}
 use Rattle.paper.specs.declared.State.{State}
 use Rattle.paper.proofs.Fits.{digest-wide}
+use Rattle.paper.proofs.Asked.{by-most}
 use Rattle.ranges.proofs.Slices.{length-part}
 use Rattle.record.specs.Places.{recordsIn, Stands}
 use Rattle.table.specs.Index.{lastWhere}
 use Rattle.table.proofs.Last.{last-most}
-use Rattle.plan.proofs.Markers.{by-most, shifted}
+use Rattle.plan.proofs.Markers.{shifted}
 use Rattle.plan.proofs.Rows.{asked-length}
 use Rattle.plan.specs.Asked.{markersOf}
 use Rattle.own.specs.Own.{ownBy}

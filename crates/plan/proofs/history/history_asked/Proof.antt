@@ -7,8 +7,9 @@ use borrow.Author.Needs.{needs}
 use lib.ListN.{List·getD-eq-default}
 use Rattle.paper.specs.Shows.{Asked, missing, inAll}
 use Rattle.paper.specs.History.{historyAsked, markersBy}
+use Rattle.paper.proofs.Asked.{by-most}
 use Rattle.plan.specs.Asked.{asked}
-use Rattle.plan.proofs.Markers.{Shifted, shifted, by-most}
+use Rattle.plan.proofs.Markers.{Shifted, shifted}
 use Rattle.plan.proofs.Rows.{asked-length, at-all, at-old, at-last, at-gap, at-marker, at-more}
 use Rattle.plan.proofs.history.history_asked.Statement.{statement}
 use Rattle.plan.proofs.history.history_asked.Tie as tie

@@ -1,7 +1,8 @@
 -- `plan::history::history_paths` adds up the rows: n versions, the numbers below the power of two above n, and the markers. Assumes nothing.
 use native.Mathlib.Omega.{arith}
 use borrow.Author.Needs.{needs}
-use Rattle.plan.proofs.Markers.{Shifted, shifted, by-most}
+use Rattle.paper.proofs.Asked.{by-most}
+use Rattle.plan.proofs.Markers.{Shifted, shifted}
 use Rattle.plan.proofs.Rows.{asked-length}
 use Rattle.plan.proofs.history.history_paths.Statement.{statement}
 use Rattle.plan.proofs.history.history_paths.Tie as tie
