@@ -67,7 +67,7 @@ small-log : (v : ℕ) → v ≤ versionMost → log2 v ≤ 9
 small-log zero h = no-log
 small-log (suc v) h = pow-below (log2 (suc v)) 9 (suc v) (log2-spec (suc v) (omega arith) (omega arith) .0) (omega arith)
 
-module _ (lab : Labelling) (telling : Telling lab) (name : Bytes) (t c : ℕ) (rs : List Record) (fits : All RecordFits rs) (shape : inShape lab c [] rs ≡ true) where
+module _ (lab : Labelling) (name : Bytes) (t c : ℕ) (rs : List Record) (fits : All RecordFits rs) (shape : inShape lab c [] rs ≡ true) where
   abbrev mine : List Record
   mine = versionsBy lab name t rs
 
@@ -83,7 +83,7 @@ module _ (lab : Labelling) (telling : Telling lab) (name : Bytes) (t c : ℕ) (r
   unfolding ownRecords
   mine-in r m = keep-in _ (byEpoch t rs) r m
 
-  few : length mine ≤ versionMost
+  pub few : length mine ≤ versionMost
   few = runs-few mine (versions-run lab name c t rs shape) (in-all _ mine (λ r m. by-in r (mine-in r m)))
 
   own-most : (r : Record) → r ∈ mine → r .version ≤ length mine
@@ -118,7 +118,7 @@ module _ (lab : Labelling) (telling : Telling lab) (name : Bytes) (t c : ℕ) (r
     old-in e = in-all (λ s. s ∈ recordStrings lab r) (its version (r .version - 1))
         (λ s j. in-right s (its version (r .version)) rest (in-right s (marked (eqb (2 ^ log2 (r .version)) (r .version))) _ (subst (λ b. s ∈ replaced b) (sym e) j)))
 
-  module _ (asked : List Asked) (one : OneToOne (labelStrings lab name t rs asked)) (x : Place) (m : missing x ∈ asked) (small : numberOf x < 2 ^ 16) where
+  module _ (telling : Telling lab) (asked : List Asked) (one : OneToOne (labelStrings lab name t rs asked)) (x : Place) (m : missing x ∈ asked) (small : numberOf x < 2 ^ 16) where
     -- a record's leaf with the label of what is asked is the name's own, of the same kind and number
     told : (r : Record) → r ∈ byEpoch t rs → (k : Kind) (n : ℕ) → n < 2 ^ 16 → All (λ s. s ∈ recordStrings lab r) (lab .strings k n (lab .person (r .name)))
         → bitsOf (lab .label k n (lab .person (r .name))) ≡ labelAt lab name x → (k ≡ kindOf x) × (n ≡ numberOf x) × (r .version ≤ length mine)
@@ -158,14 +158,14 @@ module _ (lab : Labelling) (telling : Telling lab) (name : Bytes) (t c : ℕ) (r
         by r i false q = tt
 
   -- what is not there while the name has its versions
-  module _ (asked : List Asked) (one : OneToOne (labelStrings lab name t rs asked)) where
+  module _ (telling : Telling lab) (asked : List Asked) (one : OneToOne (labelStrings lab name t rs asked)) where
     gone : (x : Place) → missing x ∈ asked → Gone (length mine) x → holds (labelAt lab name x) (leavesAt lab name t rs x) ≡ false
     gone x m (later i l u) =
         let p = pow-mono {i = suc (log2 (length mine))} {j = 10} (omega (arith, small-log (length mine) few)) in
-        none-in-all asked one (inAll i) m (omega (arith, p, u)) (λ r f (k, n, o). omega (arith, n, o, l)) (λ r f (k, n, o). other-kind (sym (ap kindByte k)))
-    gone x m last = none-in-old asked one (inOld (length mine)) m (omega (arith, few)) (λ r h (k, n, o). omega (arith, h, n, o))
+        none-in-all telling asked one (inAll i) m (omega (arith, p, u)) (λ r f (k, n, o). omega (arith, n, o, l)) (λ r f (k, n, o). other-kind (sym (ap kindByte k)))
+    gone x m last = none-in-old telling asked one (inOld (length mine)) m (omega (arith, few)) (λ r h (k, n, o). omega (arith, h, n, o))
     gone x m (above j l u) =
-        none-in-all asked one (asMarker j) m (omega (arith, u)) (λ r f (k, n, o). other-kind (ap kindByte k))
+        none-in-all telling asked one (asMarker j) m (omega (arith, u)) (λ r f (k, n, o). other-kind (ap kindByte k))
         (λ r f (k, n, o).
         let v = log2-spec (r .version) (f .least) (omega (arith, f .most)) in
         let w = log2-spec (length mine) (omega (arith, f .least, o)) (omega (arith, few)) in
@@ -179,6 +179,6 @@ module _ (lab : Labelling) (telling : Telling lab) (name : Bytes) (t c : ℕ) (r
     each a m (not-there x g) = ap not (gone x m g)
 
   -- so where only such labels are asked absent, none is there, or two strings collide
-  pub gone-or-collide : (asked : List Asked) → ((a : Asked) → a ∈ asked → Only (length mine) a)
+  pub gone-or-collide : Telling lab → (asked : List Asked) → ((a : Asked) → a ∈ asked → Only (length mine) a)
       → (every (λ a. a .there || not (holds (labelAt lab name (a .place)) (leavesAt lab name t rs (a .place)))) asked ≡ true) ⊎ Collision (labelStrings lab name t rs asked)
-  gone-or-collide asked only = ⊎-elim inr (λ one. inl (all-every _ asked (in-all _ asked (λ a m. each asked one a m (only a m))))) (collide-or-not (labelStrings lab name t rs asked))
+  gone-or-collide telling asked only = ⊎-elim inr (λ one. inl (all-every _ asked (in-all _ asked (λ a m. each telling asked one a m (only a m))))) (collide-or-not (labelStrings lab name t rs asked))

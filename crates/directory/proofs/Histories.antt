@@ -9,7 +9,6 @@ use native.Mathlib.Omega.{arith}
 use lib.ListN.{length, take, getD, length-map}
 use Rattle.fips.specs.Sha256.{sha256}
 use Rattle.paper.specs.Lists.{_∈_, All, upFrom}
-use Rattle.paper.specs.Numbers.{versionMost}
 use Rattle.paper.specs.Bytes.{Bytes, pasted}
 use Rattle.paper.specs.Strings.{leaf, commitmentString}
 use Rattle.paper.specs.Labelling.{Labelling, Sized}
@@ -33,7 +32,7 @@ use Rattle.paper.proofs.Proofs.{history-lawful}
 use Rattle.paper.proofs.Fits.{digest-wide, ProofFits}
 use Rattle.paper.proofs.Fit.{head-fit, item-fit, proof-fit}
 use Rattle.paper.proofs.Records.{versions-run, runs-at}
-use Rattle.paper.proofs.Leaves.{RecordFits, runs-few, own-in, version-leaf}
+use Rattle.paper.proofs.Leaves.{RecordFits, own-in, version-leaf}
 use Rattle.paper.proofs.Complete.{Clear, clear, shows-leaf, paths-fit}
 use Rattle.paper.proofs.Demand2.{history-accepted}
 use Rattle.directory.specs.Own.{directory, tells, ownHistory, historyAnswer}
@@ -41,7 +40,7 @@ use Rattle.directory.specs.Clash.{labelStrings}
 use Rattle.paper.proofs.Standing.{Standing}
 use Rattle.directory.proofs.Standing.{left-stands}
 use Rattle.directory.proofs.Writers.{answers, Wrote, answered}
-use Rattle.directory.proofs.Clashes.{Telling, gone-or-collide}
+use Rattle.directory.proofs.Clashes.{few, Telling, gone-or-collide}
 
 -- two lists by their elements: one counted from a on, the other as it stands
 map-up : {B : Type 0} (f : ℕ → B) (g : Record → B) (d : Record) (a : ℕ) (l : List Record) → ((j : ℕ) → j < length l → f (a + j) ≡ g (getD l j d)) → map f (upFrom a (length l)) ≡ map g l
@@ -84,17 +83,11 @@ module _ (lab : Labelling) (sized : Sized lab) {records heads : Bytes} {state : 
   abbrev at : ℕ → Record
   at j = getD mine j noRecord
 
-  mine-fits : All RecordFits mine
-  mine-fits = in-all _ mine (λ r m. all-in RecordFits rs (stands .fits) r (own-in lab sized name t rs r m))
-
   at-fits : (j : ℕ) → j < length mine → RecordFits (at j)
-  at-fits j h = all-getD RecordFits mine noRecord mine-fits j h
+  at-fits j h = all-getD RecordFits mine noRecord (in-all _ mine (λ r m. all-in RecordFits rs (stands .fits) r (own-in lab sized name t rs r m))) j h
 
   at-version : (j : ℕ) → j < length mine → at j .version ≡ suc j
   at-version j h = omega (arith, runs-at 0 0 mine noRecord (omega arith) (versions-run lab name (state .epoch) t rs (stands .shape)) j h .0)
-
-  few : length mine ≤ versionMost
-  few = runs-few mine (versions-run lab name (state .epoch) t rs (stands .shape)) mine-fits
 
   item-at : (j : ℕ) → j < length mine → getD (map itemOf mine) (suc j - 1) (record { key = []; opening = [] }) ≡ itemOf (at j)
   item-at j h =
@@ -105,7 +98,7 @@ module _ (lab : Labelling) (sized : Sized lab) {records heads : Bytes} {state : 
     proof-fits : ProofFits (λ n. n) historyAsked proof
     proof-fits = record {
       head = head-fit _ (omega (arith, stands .epochs)) (stands .previous t k) (digest-wide _) (digest-wide _);
-      small = few;
+      small = few lab name t (state .epoch) rs (stands .fits) (stands .shape);
       keyed = length-map mine itemOf;
       items = items mine (in-all _ mine (λ r m. all-in RecordFits rs (stands .fits) r (own-in lab sized name t rs r m)));
       counted = length-map plan _;
@@ -166,4 +159,4 @@ module _ (lab : Labelling) (sized : Sized lab) {records heads : Bytes} {state : 
         ⊎ Collision (labelStrings lab name t rs plan)
     history-answers told i k n = ⊎-elim
         (λ c. inl (answers lab records heads state rs out (isName name) t _ _ stands i k (and-both (stands .all-distinct t k) (and-both (stands .old-distinct t k) c)) n)) inr
-        (gone-or-collide lab told name t (state .epoch) rs (stands .fits) (stands .shape) plan (asked-only (length mine) t))
+        (gone-or-collide lab name t (state .epoch) rs (stands .fits) (stands .shape) told plan (asked-only (length mine) t))

@@ -122,7 +122,7 @@ module _ (lab : Labelling) (sized : Sized lab) {records heads : Bytes} {state : 
         ⊎ Collision (labelStrings lab name t rs asked)
     lookup-answers told i k n = ⊎-elim
         (λ c. inl (answers lab records heads state rs out (isName name) t _ _ stands i k (and-both (stands .all-distinct t k) (and-both (stands .old-distinct t k) c)) n)) inr
-        (gone-or-collide lab told name t (state .epoch) rs (stands .fits) (stands .shape) asked (λ a m. only a m))
+        (gone-or-collide lab name t (state .epoch) rs (stands .fits) (stands .shape) told asked only)
       where
         count : lastVersion mine ≡ length mine
         count = run-count mine (versions-run lab name (state .epoch) t rs (stands .shape))
