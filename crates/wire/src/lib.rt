@@ -3,6 +3,7 @@
 mod read;
 
 pub use read::next_request;
+pub use read::read_at;
 pub use read::read_field;
 pub use read::read_number16;
 pub use read::read_number32;

@@ -8,8 +8,9 @@ use crate::Request;
 use libc::STDIN_FILENO;
 ghost use mathlib.Core.Path.{_≡_};
 ghost use mathlib.Core.Bool.{false, _&&_};
-ghost use Prim.Native.Nat.{_≤_};
+ghost use Prim.Native.Nat.{_+_, _≤_};
 ghost use lib.Dec.{eqb};
+ghost use lib.ListN.{length};
 ghost use Rattle.wire.specs.Took.{Begun, After, Took, restAfter};
 
 // Whether the input had the bytes that fill the buffer.
@@ -102,6 +103,15 @@ pub fn read_field(r: Request, buffer: &mut [u8]) -> Field
             left: left - n,
         },
     }
+}
+
+// Reads a field of up to so many bytes into the space, from place `at` on.
+pub fn read_at(r: Request, space: &mut [u8], at: usize, most: usize) -> Field
+    requires { ⌜ at + most ≤ length (now space) ⌝ }
+    ensures { λ f. ⌜ (f .length ≤ most) × (at + f .length ≤ length (now (space .exit))) ⌝ }
+{
+    let after = at + most;
+    read_field(r, &mut space[at..after])
 }
 
 // The rest of a request after a field that is to have n bytes: a field of another length spoils it.

@@ -1,6 +1,6 @@
 -- `driver::main` is safe and ends: both rooms keep their lengths, and the number of turns that are left falls. Assumes nothing.
 use borrow.Author.Needs.{needs}
-use Rattle.driver.specs.Space.{Spacious, Roomy}
+use Rattle.wire.specs.Rooms.{Spacious, Roomy}
 use Rattle.driver.proofs.main.Statement.{statement}
 use Rattle.driver.proofs.main.Tie as tie
 

@@ -1,3 +1,0 @@
--- What the contracts cite.
-pub mod Text
-pub mod Space

@@ -1,0 +1,2 @@
+-- A law of what is written.
+pub mod Room
