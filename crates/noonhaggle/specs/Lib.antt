@@ -1,2 +1,2 @@
--- The answers of the C interface.
-pub mod Results
+-- What exports leave.
+pub mod Left

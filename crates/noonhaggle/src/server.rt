@@ -1,32 +1,19 @@
 // What a server links: start and publish, and the three writers. The state is a count and an epoch.
-use crate::Published;
-use crate::Written;
-use paper::PublishAnswer;
-use paper::StartAnswer;
 use paper::State;
-use paper::WriteAnswer;
+use results::Published;
+use results::Written;
+use results::write_result;
 ghost use mathlib.Core.Path.{_≡_};
 ghost use Rattle.paper.specs.Labelling.{plain};
 ghost use Rattle.paper.specs.Publish as P;
 ghost use Rattle.paper.specs.Write.{writeLookup, writeHistory, writeAudit};
-ghost use Rattle.noonhaggle.specs.Results.{startLeft, publishLeft, writeResult, writeLeft};
+ghost use Rattle.noonhaggle.specs.Left.{startLeft, publishLeft, writeLeft};
 
 #[no_mangle]
 pub extern "C" fn noonhaggle_start(heads: &mut [u8]) -> Published
     ensures { λ r. ⌜ record { result = r; heads = now (heads .exit) } ≡ startLeft (P.start plain (now (heads .entry))) ⌝ }
 {
-    match start::start(heads) {
-        StartAnswer::Started(state) => Published {
-            number: 0,
-            count: state.count,
-            epoch: state.epoch,
-        },
-        StartAnswer::Refused(n) => Published {
-            number: n as u32,
-            count: 0,
-            epoch: 0,
-        },
-    }
+    results::start_result(start::start(heads))
 }
 
 #[no_mangle]
@@ -39,38 +26,7 @@ pub extern "C" fn noonhaggle_publish(
 ) -> Published
     ensures { λ r. ⌜ record { result = r; records = now (records .exit); heads = now (heads .exit) } ≡ publishLeft (P.publish plain (now (records .entry)) (now (heads .entry)) (record { count = count; epoch = epoch }) (now (batch .entry))) ⌝ }
 {
-    match publish::publish(records, heads, State { count, epoch }, batch) {
-        PublishAnswer::Published(state) => Published {
-            number: 0,
-            count: state.count,
-            epoch: state.epoch,
-        },
-        PublishAnswer::Refused { number, state } => Published {
-            number: number as u32,
-            count: state.count,
-            epoch: state.epoch,
-        },
-    }
-}
-
-// A writer's answer as C has it.
-fn written(answer: WriteAnswer) -> Written
-    ensures { λ r. ⌜ r ≡ writeResult answer ⌝ }
-{
-    match answer {
-        WriteAnswer::Written { length, state } => Written {
-            number: 0,
-            count: state.count,
-            epoch: state.epoch,
-            length,
-        },
-        WriteAnswer::Refused { number, state } => Written {
-            number: number as u32,
-            count: state.count,
-            epoch: state.epoch,
-            length: 0,
-        },
-    }
+    results::publish_result(publish::publish(records, heads, State { count, epoch }, batch))
 }
 
 #[no_mangle]
@@ -85,7 +41,7 @@ pub extern "C" fn noonhaggle_write_lookup(
 ) -> Written
     ensures { λ r. ⌜ record { result = r; out = now (out .exit) } ≡ writeLeft (writeLookup plain (now (records .entry)) (now (heads .entry)) (record { count = count; epoch = epoch }) (now (out .entry)) (now (name .entry)) at) ⌝ }
 {
-    written(write_proof::write_lookup(records, heads, State { count, epoch }, name, at, out))
+    write_result(write_proof::write_lookup(records, heads, State { count, epoch }, name, at, out))
 }
 
 #[no_mangle]
@@ -100,7 +56,7 @@ pub extern "C" fn noonhaggle_write_history(
 ) -> Written
     ensures { λ r. ⌜ record { result = r; out = now (out .exit) } ≡ writeLeft (writeHistory plain (now (records .entry)) (now (heads .entry)) (record { count = count; epoch = epoch }) (now (out .entry)) (now (name .entry)) at) ⌝ }
 {
-    written(write_proof::write_history(records, heads, State { count, epoch }, name, at, out))
+    write_result(write_proof::write_history(records, heads, State { count, epoch }, name, at, out))
 }
 
 #[no_mangle]
@@ -114,5 +70,5 @@ pub extern "C" fn noonhaggle_write_audit(
 ) -> Written
     ensures { λ r. ⌜ record { result = r; out = now (out .exit) } ≡ writeLeft (writeAudit plain (now (records .entry)) (now (heads .entry)) (record { count = count; epoch = epoch }) (now (out .entry)) at) ⌝ }
 {
-    written(write_audit::write_audit(records, heads, State { count, epoch }, at, out))
+    write_result(write_audit::write_audit(records, heads, State { count, epoch }, at, out))
 }

@@ -2,8 +2,6 @@
 use Prim.Native.Nat.{ℕ}
 use Rattle.paper.specs.Bytes.{Bytes}
 use Rattle.paper.specs.Lookup.{keyStart, keyLength}
-use Rattle.paper.specs.Publish as D
-use Rattle.paper.specs.Write as E
 use Rattle.paper.specs.declared.LookupAnswer.{LookupAnswer}
 use Rattle.paper.specs.declared.LookupAnswer.the-variants as L
 use Rattle.paper.specs.declared.HistoryAnswer.{HistoryAnswer}
@@ -17,11 +15,11 @@ use Rattle.paper.specs.declared.PublishAnswer.{PublishAnswer}
 use Rattle.paper.specs.declared.PublishAnswer.the-variants as P
 use Rattle.paper.specs.declared.WriteAnswer.{WriteAnswer}
 use Rattle.paper.specs.declared.WriteAnswer.the-variants as W
-use Rattle.noonhaggle.specs.declared.Lookup.{Lookup}
-use Rattle.noonhaggle.specs.declared.History.{History}
-use Rattle.noonhaggle.specs.declared.Audit.{Audit}
-use Rattle.noonhaggle.specs.declared.Published.{Published}
-use Rattle.noonhaggle.specs.declared.Written.{Written}
+use Rattle.results.specs.declared.Lookup.{Lookup}
+use Rattle.results.specs.declared.History.{History}
+use Rattle.results.specs.declared.Audit.{Audit}
+use Rattle.results.specs.declared.Published.{Published}
+use Rattle.results.specs.declared.Written.{Written}
 
 abbrev pub lookupResult : LookupAnswer → Bytes → Lookup
 lookupResult (L.Found v t c) proof = record { number = 0; version = v; epoch = t; digests = c; «key_start» = keyStart (L.Found v t c); «key_length» = keyLength (L.Found v t c) proof }
@@ -51,26 +49,3 @@ publishResult (P.Refused n state) = withState n state
 abbrev pub writeResult : WriteAnswer → Written
 writeResult (W.Written n state) = record { number = 0; count = state .count; epoch = state .epoch; length = n }
 writeResult (W.Refused n state) = record { number = n; count = state .count; epoch = state .epoch; length = 0 }
-
--- what an export of the server leaves: its answer, and every byte of what it is lent to write
-pub record StartLeft : Type 0 where
-  pub result : Published
-  pub heads : Bytes
-
-abbrev pub startLeft : D.Started → StartLeft
-startLeft s = record { result = startResult (s .answer); heads = s .heads }
-
-pub record PublishLeft : Type 0 where
-  pub result : Published
-  pub records : Bytes
-  pub heads : Bytes
-
-abbrev pub publishLeft : D.Published → PublishLeft
-publishLeft p = record { result = publishResult (p .answer); records = p .records; heads = p .heads }
-
-pub record WriteLeft : Type 0 where
-  pub result : Written
-  pub out : Bytes
-
-abbrev pub writeLeft : E.Written → WriteLeft
-writeLeft w = record { result = writeResult (w .answer); out = w .out }
