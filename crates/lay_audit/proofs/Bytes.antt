@@ -33,7 +33,7 @@ use Rattle.subtrees.proofs.Records.{list-size}
 use Rattle.front.proofs.Front.{head-parts, previous-some}
 use Rattle.audit_form.specs.Places.{countAt, recordsAt}
 use Rattle.audit_form.proofs.Form.{ListStands, list-stands}
-use Rattle.write_audit.specs.Audited.{headWith, rootBefore, auditWith, bytesWith, newWith, NewLaid, Step}
+use Rattle.lay_audit.specs.Audited.{headWith, rootBefore, auditWith, bytesWith, newWith, NewLaid, Step}
 
 -- ---- a head
 

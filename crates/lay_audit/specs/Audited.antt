@@ -1,27 +1,18 @@
--- The audit writer: what remains of it as tests pass, and its proof out of the trees of the epoch alone.
+-- An audit proof out of the trees of its new epoch alone: its bytes, and what it is laid from.
 use mathlib.Core.Path.{_≡_}
-use mathlib.Core.Bool.{Bool, _&&_}
 use mathlib.Core.List.{List, _++_}
 use Prim.Native.Nat.{ℕ, _+_, _-_, _*_, _≤_}
 use lib.ListN.{length}
 use Rattle.paper.specs.Numbers.{wide, auditMost}
 use Rattle.paper.specs.Bytes.{Bytes, pasted}
 use Rattle.paper.specs.Strings.{Node, Head}
-use Rattle.paper.specs.Labelling.{plain}
 use Rattle.paper.specs.Tree.{root, rootDigest}
 use Rattle.paper.specs.Fields.{headField}
 use Rattle.paper.specs.Audit.{Audit, olds, listField, auditField}
-use Rattle.paper.specs.Table.{Record, previousHead, allAt, oldAt, distinct}
-use Rattle.paper.specs.Write.{Written, belowRoot, auditProof}
-use Rattle.paper.specs.declared.State.{State}
-use Rattle.record.specs.Places.{recordsIn}
+use Rattle.paper.specs.Table.{previousHead}
+use Rattle.paper.specs.Write.{belowRoot}
 use Rattle.tree.specs.Stored.{Sorted, Stored}
 use Rattle.forest.specs.declared.Grown.{Grown}
-use Rattle.tested.specs.Tested.{weighed}
-
--- no two leaves of a tree over A share a label, and none of a tree over O
-abbrev pub bothClear : List Node → List Node → Bool
-bothClear A O = distinct A && distinct O
 
 -- the head of epoch t over two roots
 abbrev pub headWith : Bytes → ℕ → Bytes → Bytes → Head
@@ -51,18 +42,6 @@ newWith heads t A O = headField .bytes (headWith heads t (rootDigest A) (rootDig
 pub record NewLaid (heads : Bytes) (t : ℕ) (A O : List Node) (o z : Bytes) (next : ℕ) : Type 0 where
   pub laid : z ≡ pasted o 106 (newWith heads t A O)
   pub second : next ≡ 206 + length (listField .bytes (belowRoot t (root A)))
-
--- "two leaves of a needed tree share a label": not so
-abbrev pub clearAt : ℕ → List Record → Bool
-clearAt t rs = distinct (allAt plain (t - 1) rs) && (distinct (oldAt plain (t - 1) rs) && bothClear (allAt plain t rs) (oldAt plain t rs))
-
-module _ (records heads : Bytes) (state : State) (out : Bytes) (t : ℕ) where
-  abbrev pub rs : List Record
-  rs = recordsIn (state .count) records
-
-  -- of tables in shape
-  abbrev pub restAt : Written
-  restAt = weighed state out (clearAt t rs) (auditField .bytes (auditProof plain heads t rs))
 
 -- the head table reaches to the epoch before
 pub record Step (heads : Bytes) (t : ℕ) : Type 0 where

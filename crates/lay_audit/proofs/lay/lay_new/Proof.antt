@@ -1,4 +1,4 @@
--- `write_audit::lay::lay_new`: the new head and both lists, one behind the other.
+-- `lay_audit::lay::lay_new`: the new head and both lists, one behind the other.
 use borrow.Author.Needs.{needs}
 use native.Mathlib.Omega.{arith}
 use mathlib.Core.Path.{_∙_}
@@ -11,9 +11,9 @@ use Rattle.paper.specs.Audit.{listField}
 use Rattle.paper.specs.Write.{belowRoot}
 use Rattle.paper.specs.Level.{leavesIn}
 use Rattle.tree.proofs.Slots.{stored-root}
-use Rattle.write_audit.proofs.Bytes.{new-size, new-laid, head-found}
-use Rattle.write_audit.proofs.lay.lay_new.Statement.{statement}
-use Rattle.write_audit.proofs.lay.lay_new.Tie as tie
+use Rattle.lay_audit.proofs.Bytes.{new-size, new-laid, head-found}
+use Rattle.lay_audit.proofs.lay.lay_new.Statement.{statement}
+use Rattle.lay_audit.proofs.lay.lay_new.Tie as tie
 
 abbrev first-leaves : tie.Start → List Node
 first-leaves c = leavesIn (c .args .a .leaves) (c .args .all .now)

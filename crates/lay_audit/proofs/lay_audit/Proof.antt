@@ -1,4 +1,4 @@
--- `write_audit::judge::write_from`: the lists are counted, and the proof is written if it has room.
+-- `lay_audit::lay_audit`: the lists are counted, and the proof is written if it has room.
 use borrow.Author.Needs.{needs}
 use native.Mathlib.Omega.{arith}
 use mathlib.Core.Path.{_≡_, refl, sym, ap₂, _∙_}
@@ -9,10 +9,10 @@ use Rattle.paper.specs.Bytes.{Bytes}
 use Rattle.paper.specs.Level.{leavesIn}
 use Rattle.paper.specs.declared.WriteAnswer.the-variants as W
 use Rattle.tested.proofs.Weighed.{no-room, written}
-use Rattle.write_audit.specs.Audited.{bytesWith}
-use Rattle.write_audit.proofs.Bytes.{rows-size, list-few}
-use Rattle.write_audit.proofs.judge.write_from.Statement.{statement}
-use Rattle.write_audit.proofs.judge.write_from.Tie as tie
+use Rattle.lay_audit.specs.Audited.{bytesWith}
+use Rattle.lay_audit.proofs.Bytes.{rows-size, list-few}
+use Rattle.lay_audit.proofs.lay_audit.Statement.{statement}
+use Rattle.lay_audit.proofs.lay_audit.Tie as tie
 
 list-length-requires : tie.Need-list-length-requires
 list-length-requires c κs = search needs
@@ -77,8 +77,8 @@ returns-2 c =
     let whole = written (a .state) (a .out .now) true (proof l) refl (omega (arith, size l, e .if1 .left)) in
     sym (whole ∙ ap₂ (λ x (o : Bytes). record { answer = W.Written x (a .state); out = o }) (size l) (sym (c .before .before .lay .ensures)))
 
-pub write-from-spec : {M : Type 1} → statement M
-write-from-spec =
+pub lay-audit-spec : {M : Type 1} → statement M
+lay-audit-spec =
     tie.close
     (tie.spec
     list-length-requires

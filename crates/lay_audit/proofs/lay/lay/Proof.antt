@@ -1,4 +1,4 @@
--- `write_audit::lay::lay`: the new head and the lists, the roots that the lists had, and before them header and old head.
+-- `lay_audit::lay::lay`: the new head and the lists, the roots that the lists had, and before them header and old head.
 use borrow.Author.Needs.{needs}
 use native.Mathlib.Omega.{arith}
 use mathlib.Core.Path.{_∙_}
@@ -13,10 +13,10 @@ use Rattle.paper.proofs.Honest.{LeafSet}
 use Rattle.ranges.proofs.Slices.{bytewise}
 use Rattle.tree_path.proofs.There.{leaf-set}
 use Rattle.audit_form.proofs.Form.{ListStands}
-use Rattle.write_audit.specs.Audited.{newWith}
-use Rattle.write_audit.proofs.Bytes.{with-size, laid-all, all-stands, old-stands, stands-order, stands-root, list-few, head-found}
-use Rattle.write_audit.proofs.lay.lay.Statement.{statement}
-use Rattle.write_audit.proofs.lay.lay.Tie as tie
+use Rattle.lay_audit.specs.Audited.{newWith}
+use Rattle.lay_audit.proofs.Bytes.{with-size, laid-all, all-stands, old-stands, stands-order, stands-root, list-few, head-found}
+use Rattle.lay_audit.proofs.lay.lay.Statement.{statement}
+use Rattle.lay_audit.proofs.lay.lay.Tie as tie
 
 abbrev first-leaves : tie.Start → List Node
 first-leaves c = leavesIn (c .args .a .leaves) (c .args .all .now)

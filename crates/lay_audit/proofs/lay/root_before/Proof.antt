@@ -1,12 +1,12 @@
--- `write_audit::lay::root_before`: the root of the list's nodes but the new leaves.
+-- `lay_audit::lay::root_before`: the root of the list's nodes but the new leaves.
 use borrow.Author.Needs.{needs}
 use mathlib.Core.Path.{ap, _∙_}
 use Prim.Native.Nat.{_+_}
 use Rattle.paper.specs.Tree.{rootDigest}
 use Rattle.paper.specs.Audit.{olds}
 use Rattle.audit_form.specs.Places.{countAt, recordsAt}
-use Rattle.write_audit.proofs.lay.root_before.Statement.{statement}
-use Rattle.write_audit.proofs.lay.root_before.Tie as tie
+use Rattle.lay_audit.proofs.lay.root_before.Statement.{statement}
+use Rattle.lay_audit.proofs.lay.root_before.Tie as tie
 
 read32-requires : tie.Need-read32-requires
 read32-requires c κs = search needs

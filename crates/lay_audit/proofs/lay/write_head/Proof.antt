@@ -1,13 +1,13 @@
--- `write_audit::lay::write_head`: four parts, one behind the other.
+-- `lay_audit::lay::write_head`: four parts, one behind the other.
 use borrow.Author.Needs.{needs}
 use native.Mathlib.Omega.{arith}
 use mathlib.Core.Path.{ap, _∙_}
 use Prim.Native.Nat.{_+_}
 use Rattle.paper.specs.Bytes.{pasted}
-use Rattle.write_audit.specs.Audited.{headWith}
-use Rattle.write_audit.proofs.Bytes.{head-laid, head-wide}
-use Rattle.write_audit.proofs.lay.write_head.Statement.{statement}
-use Rattle.write_audit.proofs.lay.write_head.Tie as tie
+use Rattle.lay_audit.specs.Audited.{headWith}
+use Rattle.lay_audit.proofs.Bytes.{head-laid, head-wide}
+use Rattle.lay_audit.proofs.lay.write_head.Statement.{statement}
+use Rattle.lay_audit.proofs.lay.write_head.Tie as tie
 
 previous-head-requires : tie.Need-previous-head-requires
 previous-head-requires c κs = search needs

@@ -17,7 +17,7 @@ ghost use Rattle.paper.specs.Level.{leavesIn};
 ghost use Rattle.paper.specs.Tree.{rootDigest};
 ghost use Rattle.paper.specs.Audit.{olds, inOrder};
 ghost use Rattle.audit_form.specs.Places.{countAt, recordsAt, Listed};
-ghost use Rattle.write_audit.specs.Audited.{headWith, newWith, bytesWith, NewLaid, Step, Kept};
+ghost use Rattle.lay_audit.specs.Audited.{headWith, newWith, bytesWith, NewLaid, Step, Kept};
 
 // "the 100 bytes of a head after its 0x03", at `at`. "A previous head is read from the head table, and no other head is."
 fn write_head(heads: &[u8], epoch: u32, all: &[u8; 32], old: &[u8; 32], out: &mut [u8], at: usize)

@@ -1,6 +1,9 @@
-// "8 ROOM": the lists are counted, and the proof is written if it has room.
-use crate::lay::lay;
+// An audit proof out of the two trees of its new epoch as they are stored, and "8 ROOM": the lists are counted, and the proof is laid if it
+// has room.
+mod lay;
+
 use forest::Grown;
+use lay::lay;
 use paper::State;
 use paper::WriteAnswer;
 use subtrees::list_length;
@@ -8,10 +11,10 @@ ghost use mathlib.Core.Path.{_≡_};
 ghost use mathlib.Core.Bool.{true};
 ghost use Rattle.paper.specs.Level.{leavesIn};
 ghost use Rattle.tested.specs.Tested.{weighed};
-ghost use Rattle.write_audit.specs.Audited.{bytesWith, Step, Kept};
+ghost use Rattle.lay_audit.specs.Audited.{bytesWith, Step, Kept};
 
 // A header of 6 bytes, two heads of 100, two counts of 4, and records of 99 bytes.
-pub(crate) fn write_from(
+pub fn lay_audit(
     heads: &[u8],
     state: State,
     epoch: u32,
