@@ -1,45 +1,24 @@
-// "or a label to be shown absent is there", and "8 ROOM": the paths are measured, and the proof is written if it has room.
-use crate::lay::lay;
+// A lookup or history proof out of the two trees of its epoch as they are stored: "or a label to be shown absent is there", and "8 ROOM".
+// Its paths and keys are measured, and it is laid if it has room.
+mod before;
+mod found;
+
+use before::lay_before;
 use forest::Grown;
+use found::find;
 use front::items_size;
-use own::latest;
 use paper::State;
 use paper::WriteAnswer;
 use paths::Plan;
 use paths::measure_paths;
-use record::version_at;
+use paths::write_paths;
 ghost use mathlib.Core.Path.{_≡_};
-ghost use Prim.Native.Nat.{ℕ, suc, _+_};
+ghost use Prim.Native.Nat.{_+_};
 ghost use lib.Dec.{leb};
 ghost use Rattle.paper.specs.Level.{leavesIn};
-ghost use Rattle.record.specs.Places.{Stands};
 ghost use Rattle.paths.specs.Paths.{Trees};
 ghost use Rattle.tested.specs.Tested.{Sound};
-ghost use Rattle.write_proof.specs.Judged.{versionOf, fromBy, judged};
-
-// The version of the name's last record, of which 1 + its number is given, or 0.
-fn number_of(records: &[u8], at: usize) -> u16
-    requires { ⌜ ((k : ℕ) → at ≡ suc k → Stands (now records) k) ⌝ }
-    ensures { λ r. ⌜ r ≡ versionOf (now (records .entry)) at ⌝ }
-{
-    if at == 0 {
-        return 0;
-    }
-    version_at(records, at - 1)
-}
-
-// From which record on keys are written: a history has all of them, a lookup the last one.
-fn from_of(at: usize, history: bool) -> usize
-    ensures { λ r. ⌜ r ≡ fromBy history at ⌝ }
-{
-    if history {
-        return 0;
-    }
-    if at == 0 {
-        return 0;
-    }
-    at - 1
-}
+ghost use Rattle.lay_proof.specs.Judged.{judged};
 
 // Whether 108 bytes, keys and paths fit.
 fn has_room(room: usize, keys: usize, paths: usize) -> bool
@@ -55,7 +34,8 @@ fn has_room(room: usize, keys: usize, paths: usize) -> bool
     paths <= left - keys
 }
 
-pub(crate) fn write_from(
+// A proof of the name at the epoch, over the leaves and slots of *all* and of *old*.
+pub fn lay_proof(
     records: &[u8],
     heads: &[u8],
     state: State,
@@ -74,11 +54,11 @@ pub(crate) fn write_from(
     ensures { λ r. ⌜ record { answer = r; out = now (out .exit) } ≡ judged history (now (records .entry)) (now (heads .entry)) state (now (out .entry)) (now (name .entry)) epoch (leavesIn (a .leaves) (now (all .entry))) (leavesIn (o .leaves) (now (old .entry))) ⌝ }
 {
     let count = state.count as usize;
-    let at = latest(records, count, name, epoch);
-    let from = from_of(at, history);
+    let found = find(records, count, name, epoch, history);
+    let from = found.from;
     let plan = Plan {
         history,
-        number: number_of(records, at),
+        number: found.number,
         epoch,
     };
     let paths = measure_paths(all, a, old, o, name, plan);
@@ -89,23 +69,7 @@ pub(crate) fn write_from(
     if !has_room(out.len(), keys, paths.size) {
         return WriteAnswer::Refused { number: 8, state };
     }
-    lay(
-        records,
-        heads,
-        count,
-        from,
-        name,
-        all,
-        all_slots,
-        a,
-        old,
-        old_slots,
-        o,
-        plan,
-        out,
-    );
-    WriteAnswer::Written {
-        length: 108 + keys + paths.size,
-        state,
-    }
+    let next = lay_before(records, heads, count, from, name, a, o, plan, out);
+    let length = write_paths(all, all_slots, a, old, old_slots, o, name, plan, out, next);
+    WriteAnswer::Written { length, state }
 }

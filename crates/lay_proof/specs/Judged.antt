@@ -1,39 +1,28 @@
--- Both writers at once: by whether it is a history, what is answered, and what remains of it as tests pass.
+-- Lookup and history proofs at once, by whether it is a history: what is found of the name, the proof's bytes, and what is answered of trees
+-- whose leaves share no label.
 use mathlib.Core.Bool.{Bool, true, false}
-use mathlib.Core.List.{List, _++_, map}
+use mathlib.Core.List.{List, [], _++_, map}
 use Prim.Native.Nat.{ℕ, zero, suc, _*_, _≤_, _<_}
 use lib.ListN.{length}
 use Rattle.paper.specs.Lists.{every}
 use Rattle.paper.specs.Numbers.{wide}
 use Rattle.paper.specs.Bytes.{Bytes}
-use Rattle.paper.specs.Strings.{Node, Head}
+use Rattle.paper.specs.Strings.{Node, Head, inner}
 use Rattle.paper.specs.Labelling.{plain}
-use Rattle.paper.specs.Tree.{rootDigest}
-use Rattle.paper.specs.Fields.{isName}
+use Rattle.paper.specs.Tree.{digest, rootDigest}
 use Rattle.paper.specs.Shows.{Item}
-use Rattle.paper.specs.Lookup.{lookupAsked, lookupField}
-use Rattle.paper.specs.History.{historyAsked, historyField}
 use Rattle.paper.specs.Table.{Record, previousHead, lastVersion}
-use Rattle.paper.specs.Write.{Written, itemOf, lastItem, versionsBy, unclashed, lookupProof, historyProof, writeWith}
+use Rattle.paper.specs.Write.{Written, itemOf, lastItem, versionsBy}
 use Rattle.paper.specs.declared.State.{State}
 use Rattle.record.specs.Places.{recordAt, recordsIn, Stands}
+use Rattle.table.specs.Index.{lastWhere}
+use Rattle.own.specs.Own.{ownBy}
+use Rattle.tree.specs.declared.Sides.{Sides}
 use Rattle.paths.specs.Paths.{askedOf, freeFor, pathBytes}
 use Rattle.paths.specs.declared.Plan.{Plan}
 use Rattle.front.specs.Front.{frontBytes, itemBytes}
 use Rattle.tested.specs.Tested.{weighed}
-
--- "two leaves of a needed tree share a label, or a label to be shown absent is there": not so; and the proof
-abbrev pub clearBy : Bool → Bytes → ℕ → List Record → Bool
-clearBy true name t rs = unclashed plain name t rs (historyAsked (length (versionsBy plain name t rs)) t)
-clearBy false name t rs = unclashed plain name t rs (lookupAsked (lastVersion (versionsBy plain name t rs)))
-
-abbrev pub proofBy : Bool → Bytes → Bytes → ℕ → List Record → Bytes
-proofBy true heads name t rs = historyField .bytes (historyProof plain name t rs heads)
-proofBy false heads name t rs = lookupField .bytes (lookupProof plain name t rs heads)
-
--- what either writer leaves
-abbrev pub writtenBy : Bool → Bytes → Bytes → State → Bytes → Bytes → ℕ → Written
-writtenBy history records heads state out name t = writeWith plain records heads state out (isName name) t (clearBy history name t) (proofBy history heads name t)
+use Rattle.lay_proof.specs.declared.found.Found.{Found}
 
 -- "kind 1 (1 lookup, 2 history, 3 audit)", and the keys
 abbrev pub kindBy : Bool → ℕ
@@ -54,10 +43,25 @@ fromBy true at = 0
 fromBy false zero = 0
 fromBy false (suc k) = k
 
+-- both, of the name's last record by epoch t among the first `count`
+abbrev pub found : Bool → Bytes → Bytes → ℕ → ℕ → Found
+found history s name t count = record { from = fromBy history (lastWhere (ownBy s name t) count); number = versionOf s (lastWhere (ownBy s name t) count) }
+
+-- the root over two sides; the head of epoch t over two roots
+abbrev pub overSides : Sides → Bytes
+overSides s = digest (inner [] (s .left) (s .right))
+
+abbrev pub headOver : Bytes → Bytes → Bytes → ℕ → Head
+headOver heads all old t = record { epoch = t; previous = previousHead heads t; all = all; old = old }
+
+-- what stands before a proof's paths
+unfoldable pub beforeWith : Bytes → Bytes → Bytes → List Item → Plan → Bytes
+beforeWith heads all old items p = frontBytes (kindBy (p .history)) (headOver heads all old (p .epoch)) (p .number) ++ itemBytes items
+
 -- a proof's bytes, for its keys and paths, out of the leaves of *all* and of *old*
 module _ (heads name : Bytes) (A O : List Node) where
   abbrev pub headIn : ℕ → Head
-  headIn t = record { epoch = t; previous = previousHead heads t; all = rootDigest A; old = rootDigest O }
+  headIn t = headOver heads (rootDigest A) (rootDigest O) t
 
   unfoldable pub bytesWith : List Item → Plan → Bytes
   bytesWith items p = frontBytes (kindBy (p .history)) (headIn (p .epoch)) (p .number) ++ (itemBytes items ++ pathBytes name A O (askedOf p))
@@ -65,10 +69,6 @@ module _ (heads name : Bytes) (A O : List Node) where
 module _ (history : Bool) (records heads : Bytes) (state : State) (out name : Bytes) (t : ℕ) where
   abbrev pub versions : List Record
   versions = versionsBy plain name t (recordsIn (state .count) records)
-
-  -- of tables in shape
-  abbrev pub restBy : Written
-  restBy = weighed state out (clearBy history name t (recordsIn (state .count) records)) (proofBy history heads name t (recordsIn (state .count) records))
 
   -- what the paths of the name's versions are
   abbrev pub planBy : Plan

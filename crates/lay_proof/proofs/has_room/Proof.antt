@@ -1,4 +1,4 @@
--- `write_proof::judge::has_room`: what is left is compared.
+-- `lay_proof::has_room`: what is left is compared.
 use borrow.Author.Tests.{le-leb, lt-leb}
 use native.Mathlib.Omega.{arith}
 use native.Mathlib.Decide.{decLe}
@@ -6,8 +6,8 @@ use mathlib.Core.Path.{_≡_, sym, _∙_}
 use mathlib.Core.Logic.{by-cases}
 use Prim.Native.Nat.{ℕ, _+_, _-_, _≤_}
 use lib.Dec.{leb}
-use Rattle.write_proof.proofs.judge.has_room.Statement.{statement}
-use Rattle.write_proof.proofs.judge.has_room.Tie as tie
+use Rattle.lay_proof.proofs.has_room.Statement.{statement}
+use Rattle.lay_proof.proofs.has_room.Tie as tie
 
 -- what is left decides
 left-over : (room keys paths : ℕ) → 108 ≤ room → keys ≤ room - 108 → leb paths (room - 108 - keys) ≡ leb (108 + keys + paths) room
