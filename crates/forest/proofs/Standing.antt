@@ -1,5 +1,5 @@
 -- A row whose front was brought into order, and the slots over it. Assumes nothing.
-use mathlib.Core.Path.{_≡_, ap, _∙_, subst}
+use mathlib.Core.Path.{_≡_, sym, ap, _∙_, subst}
 use mathlib.Core.Bool.{Bool, true}
 use mathlib.Core.List.{List, _++_}
 use Prim.Native.Nat.{ℕ, _*_, _≤_}
@@ -14,7 +14,8 @@ use Rattle.gather.specs.Gathered.{Gained}
 use Rattle.bit_order.proofs.Leaves.{leaves-none, leaves-cut}
 use Rattle.tree.specs.Stored.{Sorted, Stored}
 use Rattle.tree.specs.declared.Sides.{Sides}
-use Rattle.forest.specs.Grown.{Standing}
+use Rattle.forest.specs.Grown.{Standing, Grows, Clear}
+use Rattle.forest.specs.declared.Grown.{Grown}
 
 -- what is lent and comes back stands in front
 pub front : (x o : Bytes) (k : ℕ) → length x ≡ k → take k (x ++ drop k o) ≡ x
@@ -49,3 +50,7 @@ module _ (S : List Node) (n : ℕ) (o g x : Bytes) (r : Bool) (gained : Gained o
     tree = same-leaves .tree e;
     labels = same-leaves .labels;
   }
+
+-- a tree that was grown and is clear
+pub cleared : (S : List Node) (row slots : Bytes) (r : Grown) → Grows S row slots r → r .clear ≡ true → Clear S (take (r .leaves * 68) row) (take (r .leaves * 64) slots) r
+cleared S row slots r g e = record { alone = sym (g .is) ∙ e; standing = g .stands e }

@@ -35,3 +35,8 @@ pub record Grows (S : List Node) (row slots : Bytes) (r : Grown) : Type 0 where
   pub reach : r .leaves * 64 ≤ length slots
   pub is : r .clear ≡ distinct S
   pub stands : r .clear ≡ true → Standing S (r .leaves) (take (r .leaves * entrySize) row) (take (r .leaves * 64) slots) (r .sides)
+
+-- a tree over S is there: no two of its leaves share a label, and it stands
+pub record Clear (S : List Node) (row slots : Bytes) (r : Grown) : Type 0 where
+  pub alone : distinct S ≡ true
+  pub standing : Standing S (r .leaves) row slots (r .sides)

@@ -1,3 +1,2 @@
 -- Laws of writing audit proofs.
-pub mod Bytes
 pub mod Same

@@ -2,11 +2,10 @@
 use mathlib.Core.Path.{_≡_, refl, sym, ap, ap₂, _∙_, subst}
 use mathlib.Core.Bool.{Bool, true, false, _&&_}
 use mathlib.Core.List.{List, flatMap}
-use Prim.Native.Nat.{ℕ, zero, suc, _-_, _*_, _≤_}
+use Prim.Native.Nat.{ℕ, zero, suc, _-_, _≤_}
 use native.Mathlib.Omega.{arith}
-use lib.ListN.{length, take}
 use Rattle.paper.specs.Lists.{All}
-use Rattle.paper.specs.Numbers.{CLASH}
+use Rattle.paper.specs.Numbers.{CLASH, auditMost}
 use Rattle.paper.specs.Bytes.{Bytes}
 use Rattle.paper.specs.Strings.{Node}
 use Rattle.paper.specs.Labelling.{plain}
@@ -23,13 +22,13 @@ use Rattle.paper.proofs.Leaves.{RecordFits, record-fits, all-at-sized, old-at-s
 use Rattle.paper.proofs.Before.{Dated, clear-before, root-before, all-dated, old-dated}
 use Rattle.paper.proofs.Honest.{LeafSized}
 use Rattle.record.specs.Places.{recordsIn}
-use Rattle.gather.specs.Gathered.{leavesBy}
-use Rattle.forest.specs.Grown.{Grows}
+use Rattle.forest.specs.Grown.{Clear}
 use Rattle.forest.specs.declared.Grown.{Grown}
 use Rattle.tested.specs.Tested.{weighed, Sound}
 use Rattle.tested.proofs.First.{heads-reach}
 use Rattle.tested.proofs.Weighed.{clash}
-use Rattle.write_audit.specs.Audited.{rootBefore, bytesWith, clearAt, restAt, Step, Kept}
+use Rattle.lay_audit.specs.Audited.{rootBefore, bytesWith, Step, Kept}
+use Rattle.write_audit.specs.Rest.{clearAt, restAt}
 
 -- ---- the epoch before
 
@@ -66,46 +65,39 @@ module _ (records heads : Bytes) (state : State) (out : Bytes) (t : ℕ) (s : So
 
   -- ---- the epoch
 
-  module _ (a : Grown) (ra sa : Bytes) (ga : Grows (leavesBy false t rs) ra sa a) where
-    pub all-refused : a .clear ≡ false → restAt records heads state out t ≡ clashes
-    all-refused e = clash state out (clearAt t rs) (auditField .bytes (auditProof plain heads t rs)) (closed (distinct (allAt plain (t - 1) rs)) (distinct (oldAt plain (t - 1) rs)) _ (ap (λ x. x && distinct (oldAt plain t rs)) (sym (ga .is) ∙ e)))
+  pub all-refused : distinct (allAt plain t rs) ≡ false → restAt records heads state out t ≡ clashes
+  all-refused e = clash state out (clearAt t rs) (auditField .bytes (auditProof plain heads t rs)) (closed (distinct (allAt plain (t - 1) rs)) (distinct (oldAt plain (t - 1) rs)) _ (ap (λ x. x && distinct (oldAt plain t rs)) e))
 
-    module _ (ea : a .clear ≡ true) (o : Grown) (ro so : Bytes) (go : Grows (leavesBy true t rs) ro so o) where
-      pub old-refused : o .clear ≡ false → restAt records heads state out t ≡ clashes
-      old-refused e = clash state out (clearAt t rs) (auditField .bytes (auditProof plain heads t rs)) (closed (distinct (allAt plain (t - 1) rs)) (distinct (oldAt plain (t - 1) rs)) _ (ap₂ (λ x y. x && y) (sym (ga .is) ∙ ea) (sym (go .is) ∙ e)))
+  module _ (a : Grown) (all allSlots : Bytes) (ca : Clear (allAt plain t rs) all allSlots a) where
+    pub old-refused : distinct (oldAt plain t rs) ≡ false → restAt records heads state out t ≡ clashes
+    old-refused e = clash state out (clearAt t rs) (auditField .bytes (auditProof plain heads t rs)) (closed (distinct (allAt plain (t - 1) rs)) (distinct (oldAt plain (t - 1) rs)) _ (ap₂ (λ x y. x && y) (ca .alone) e))
 
-      module _ (eo : o .clear ≡ true) where
-        pub kept : length ra ≡ 557056 → length ro ≡ 557056 → Kept (take (a .leaves * 68) ra) (take (a .leaves * 64) sa) a (take (o .leaves * 68) ro) (take (o .leaves * 64) so) o
-        kept ha ho = record {
-          first = ga .stands ea .sorted;
-          second = go .stands eo .sorted;
-          firstStored = ga .stands ea .stored;
-          secondStored = go .stands eo .stored;
-          firstFew = omega (arith, ga .within);
-          secondFew = omega (arith, go .within);
-        }
+    module _ (o : Grown) (old oldSlots : Bytes) (co : Clear (oldAt plain t rs) old oldSlots o) where
+      pub kept : a .leaves ≤ auditMost → o .leaves ≤ auditMost → Kept all allSlots a old oldSlots o
+      kept ha ho = record {
+        first = ca .standing .sorted;
+        second = co .standing .sorted;
+        firstStored = ca .standing .stored;
+        secondStored = co .standing .stored;
+        firstFew = ha;
+        secondFew = ho;
+      }
 
-        all-clear : distinct (allAt plain t rs) ≡ true
-        all-clear = sym (ga .is) ∙ ea
+      clear : clearAt t rs ≡ true
+      clear = and-both (clear-then (allLeaves plain) (all-dated plain) rs t later (ca .alone)) (and-both (clear-then (oldLeaves plain) (old-dated plain) rs t later (co .alone)) (and-both (ca .alone) (co .alone)))
 
-        old-clear : distinct (oldAt plain t rs) ≡ true
-        old-clear = sym (go .is) ∙ eo
-
-        clear : clearAt t rs ≡ true
-        clear = and-both (clear-then (allLeaves plain) (all-dated plain) rs t later all-clear) (and-both (clear-then (oldLeaves plain) (old-dated plain) rs t later old-clear) (and-both all-clear old-clear))
-
-        -- the same trees, and those before them
-        pub rest-is : restAt records heads state out t ≡ weighed state out true (bytesWith heads t (leavesIn (a .leaves) (take (a .leaves * 68) ra)) (leavesIn (o .leaves) (take (o .leaves * 68) ro)))
-        unfolding bytesWith
-        rest-is =
-            let x = ga .stands ea .tree in
-            let y = go .stands eo .tree in
-            let u = root-then (allLeaves plain) (all-dated plain) rs t later (all-at-sized plain plain-sized t rs fits) all-clear ∙ ap (λ T. rootDigest (olds (belowRoot t T))) x in
-            let v = root-then (oldLeaves plain) (old-dated plain) rs t later (old-at-sized plain plain-sized t rs fits) old-clear ∙ ap (λ T. rootDigest (olds (belowRoot t T))) y in
-            ap₂ (weighed state out) clear
-            (λ i. auditField .bytes (record {
-              before = record { epoch = t - 1; previous = previousHead heads (t - 1); all = u i; old = v i };
-              after = record { epoch = t; previous = previousHead heads t; all = digest (top (x i)); old = digest (top (y i)) };
-              all = belowRoot t (x i);
-              old = belowRoot t (y i);
-            }))
+      -- the same trees, and those before them
+      pub rest-is : restAt records heads state out t ≡ weighed state out true (bytesWith heads t (leavesIn (a .leaves) all) (leavesIn (o .leaves) old))
+      unfolding bytesWith
+      rest-is =
+          let x = ca .standing .tree in
+          let y = co .standing .tree in
+          let u = root-then (allLeaves plain) (all-dated plain) rs t later (all-at-sized plain plain-sized t rs fits) (ca .alone) ∙ ap (λ T. rootDigest (olds (belowRoot t T))) x in
+          let v = root-then (oldLeaves plain) (old-dated plain) rs t later (old-at-sized plain plain-sized t rs fits) (co .alone) ∙ ap (λ T. rootDigest (olds (belowRoot t T))) y in
+          ap₂ (weighed state out) clear
+          (λ i. auditField .bytes (record {
+            before = record { epoch = t - 1; previous = previousHead heads (t - 1); all = u i; old = v i };
+            after = record { epoch = t; previous = previousHead heads t; all = digest (top (x i)); old = digest (top (y i)) };
+            all = belowRoot t (x i);
+            old = belowRoot t (y i);
+          }))

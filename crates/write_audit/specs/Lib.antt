@@ -1,2 +1,2 @@
 -- What the contracts of writing audit proofs cite.
-pub mod Audited
+pub mod Rest

@@ -1,7 +1,5 @@
 // The writer of audit proofs: "Writers test 1, 11, 10, 7, 8." Of the four trees that the step into an epoch speaks of, the two of the
 // epoch itself are grown and stored until their lists are written. The roots of the epoch before come out of the lists.
-mod judge;
-mod lay;
 mod trees;
 
 use paper::State;

@@ -1,3 +1,2 @@
 -- Laws of writing lookup and history proofs.
-pub mod Bytes
 pub mod Same

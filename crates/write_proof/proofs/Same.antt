@@ -2,8 +2,8 @@
 use mathlib.Core.Path.{_≡_, sym, ap, ap₂, _∙_}
 use mathlib.Core.Bool.{Bool, true, false, not, _||_}
 use mathlib.Core.List.{List, _++_, map}
-use Prim.Native.Nat.{ℕ, _*_, _≤_}
-use lib.ListN.{length, take}
+use Prim.Native.Nat.{ℕ, _≤_}
+use lib.ListN.{length}
 use Rattle.paper.specs.Lists.{every}
 use Rattle.paper.specs.Numbers.{CLASH}
 use Rattle.paper.specs.Bytes.{Bytes}
@@ -22,8 +22,7 @@ use Rattle.paper.specs.Table.{Record, lastVersion, previousHead, headOf, allAt,
 use Rattle.paper.specs.Write.{versionsBy, leavesAt, pathsOf, itemOf, lastItem, lookupProof, historyProof, unwritten}
 use Rattle.paper.specs.declared.State.{State}
 use Rattle.record.specs.Places.{recordsIn}
-use Rattle.gather.specs.Gathered.{leavesBy}
-use Rattle.forest.specs.Grown.{Grows}
+use Rattle.forest.specs.Grown.{Clear}
 use Rattle.forest.specs.declared.Grown.{Grown}
 use Rattle.own.proofs.Versions.{versions-number}
 use Rattle.paths.specs.Paths.{askedBy, leavesFor, freeFor, pathBytes, Trees}
@@ -31,7 +30,8 @@ use Rattle.front.specs.Front.{frontBytes, itemBytes}
 use Rattle.front.proofs.Front.{proof-bytes}
 use Rattle.tested.specs.Tested.{weighed, Sound}
 use Rattle.tested.proofs.Weighed.{clash}
-use Rattle.write_proof.specs.Judged.{clearBy, proofBy, kindBy, itemsBy, headIn, bytesWith, restBy, judged}
+use Rattle.lay_proof.specs.Judged.{kindBy, itemsBy, headIn, bytesWith, judged}
+use Rattle.write_proof.specs.Rest.{clearBy, proofBy, restBy}
 
 -- ---- the same trees, and the same labels in them
 
@@ -101,27 +101,26 @@ module _ (history : Bool) (records heads : Bytes) (state : State) (out name : By
   abbrev rs : List Record
   rs = recordsIn (state .count) records
 
-  module _ (a : Grown) (ra sa : Bytes) (ga : Grows (leavesBy false t rs) ra sa a) where
-    pub all-refused : a .clear ≡ false → restBy history records heads state out name t ≡ unwritten plain records heads state out CLASH
-    all-refused e = clash state out _ _ (all-clash name t rs history (sym (ga .is) ∙ e))
+  pub all-refused : distinct (allAt plain t rs) ≡ false → restBy history records heads state out name t ≡ unwritten plain records heads state out CLASH
+  all-refused e = clash state out _ _ (all-clash name t rs history e)
 
-    module _ (ea : a .clear ≡ true) (o : Grown) (ro so : Bytes) (go : Grows (leavesBy true t rs) ro so o) where
-      pub old-refused : o .clear ≡ false → restBy history records heads state out name t ≡ unwritten plain records heads state out CLASH
-      old-refused e = clash state out _ _ (old-clash name t rs history (sym (ga .is) ∙ ea) (sym (go .is) ∙ e))
+  module _ (a : Grown) (all allSlots : Bytes) (ca : Clear (allAt plain t rs) all allSlots a) where
+    pub old-refused : distinct (oldAt plain t rs) ≡ false → restBy history records heads state out name t ≡ unwritten plain records heads state out CLASH
+    old-refused e = clash state out _ _ (old-clash name t rs history (ca .alone) e)
 
-      module _ (eo : o .clear ≡ true) (h : Sound records heads state t) (s : length name ≤ 64) where
-        pub trees : Trees (take (a .leaves * 68) ra) (take (a .leaves * 64) sa) a (take (o .leaves * 68) ro) (take (o .leaves * 64) so) o name
-        trees = record {
-          ready = record { first = ga .stands ea .sorted; second = go .stands eo .sorted; short = s };
-          first = ga .stands ea .stored;
-          second = go .stands eo .stored;
-        }
+    module _ (o : Grown) (old oldSlots : Bytes) (co : Clear (oldAt plain t rs) old oldSlots o) where
+      pub trees : length name ≤ 64 → Trees all allSlots a old oldSlots o name
+      trees s = record {
+        ready = record { first = ca .standing .sorted; second = co .standing .sorted; short = s };
+        first = ca .standing .stored;
+        second = co .standing .stored;
+      }
 
-        pub rest-is : restBy history records heads state out name t ≡ judged history records heads state out name t (leavesIn (a .leaves) (take (a .leaves * 68) ra)) (leavesIn (o .leaves) (take (o .leaves * 68) ro))
-        rest-is =
-            let A = leavesIn (a .leaves) (take (a .leaves * 68) ra) in
-            let O = leavesIn (o .leaves) (take (o .leaves * 68) ro) in
-            let x = ga .stands ea in
-            let y = go .stands eo in
-            let runs = versions-number records name t (state .count) (state .epoch) (h .shaped .shape) in
-            ap₂ (weighed state out) (clear-is name t rs A O runs (sym (ga .is) ∙ ea) (sym (go .is) ∙ eo) (x .labels) (y .labels) history) (proof-is name t rs A O runs (x .tree) (y .tree) heads history)
+      pub rest-is : Sound records heads state t → restBy history records heads state out name t ≡ judged history records heads state out name t (leavesIn (a .leaves) all) (leavesIn (o .leaves) old)
+      rest-is h =
+          let A = leavesIn (a .leaves) all in
+          let O = leavesIn (o .leaves) old in
+          let x = ca .standing in
+          let y = co .standing in
+          let runs = versions-number records name t (state .count) (state .epoch) (h .shaped .shape) in
+          ap₂ (weighed state out) (clear-is name t rs A O runs (ca .alone) (co .alone) (x .labels) (y .labels) history) (proof-is name t rs A O runs (x .tree) (y .tree) heads history)

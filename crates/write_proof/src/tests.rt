@@ -5,7 +5,7 @@ use paper::State;
 use paper::WriteAnswer;
 use tested::refusal;
 ghost use mathlib.Core.Path.{_≡_};
-ghost use Rattle.write_proof.specs.Judged.{writtenBy};
+ghost use Rattle.write_proof.specs.Rest.{writtenBy};
 
 pub(crate) fn write_proof(
     records: &[u8],

@@ -11,7 +11,7 @@ use Rattle.paper.specs.Table.{Record}
 use Rattle.paper.specs.Write.{auditProof}
 use Rattle.tested.proofs.First.{argument-good}
 use Rattle.tested.proofs.Order.{refused, passed}
-use Rattle.write_audit.specs.Audited.{clearAt}
+use Rattle.write_audit.specs.Rest.{clearAt}
 use Rattle.write_audit.proofs.write_audit.Statement.{statement}
 use Rattle.write_audit.proofs.write_audit.Tie as tie
 

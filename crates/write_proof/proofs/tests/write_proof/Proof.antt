@@ -6,7 +6,7 @@ use Rattle.names.proofs.Named.{name-short}
 use Rattle.tested.specs.Tested.{Tested}
 use Rattle.tested.proofs.First.{argument-good}
 use Rattle.tested.proofs.Order.{refused, passed}
-use Rattle.write_proof.specs.Judged.{clearBy, proofBy}
+use Rattle.write_proof.specs.Rest.{clearBy, proofBy}
 use Rattle.write_proof.proofs.tests.write_proof.Statement.{statement}
 use Rattle.write_proof.proofs.tests.write_proof.Tie as tie
 

@@ -1,10 +1,16 @@
--- `write_proof::trees::write_shaped`: both trees are grown, and the proof is judged over them.
+-- `write_proof::trees::write_shaped`: tree *all* is grown, and then the other beside it.
 use borrow.Author.Needs.{needs}
 use borrow.Author.Tests.{not-true, not-false}
-use mathlib.Core.Path.{_≡_, sym, _∙_}
-use mathlib.Core.Bool.{true}
+use mathlib.Core.Path.{sym, _∙_}
 use lib.Seq.{length-take-le}
-use Rattle.write_proof.proofs.Same.{all-refused, old-refused, trees, rest-is}
+use lib.ListN.{take}
+use Prim.Native.Nat.{_*_}
+use Rattle.paper.specs.Labelling.{plain}
+use Rattle.paper.specs.Table.{allAt}
+use Rattle.record.specs.Places.{recordsIn}
+use Rattle.forest.specs.Grown.{Clear}
+use Rattle.forest.proofs.Standing.{cleared}
+use Rattle.write_proof.proofs.Same.{all-refused}
 use Rattle.write_proof.proofs.trees.write_shaped.Statement.{statement}
 use Rattle.write_proof.proofs.trees.write_shaped.Tie as tie
 
@@ -29,95 +35,51 @@ grow-requires c κs = search needs
 abbrev start : tie.After-grow → tie.Start
 start c = c .before .before .before .before .before .before .before .before .before .before
 
--- no two leaves of *all* share a label
-alone : (c : tie.Else1) → c .before .before .before .before .grow .result .clear ≡ true
-alone c = not-false (c .before .before .before .before .grow .result .clear) (c .if1 .left)
-
 returns : tie.Need-returns
 returns c =
     let g = c .before .before .before .before in
+    let s = start g in
+    let a = s .args in
+    sym (all-refused (a .history) (a .records .now) (a .heads .now) (a .state) (a .out .now) (a .name .now) (a .epoch) (sym (g .grow .ensures .is) ∙ not-true (g .grow .result .clear) (c .if1 .taken)))
+
+abbrev grown : tie.Else1 → tie.After-grow
+grown c = c .before .before .before .before
+
+-- tree *all* is there
+all-clear : (c : tie.Else1) → let g = grown c in
     let a = start g .args in
-    sym (all-refused (a .history) (a .records .now) (a .heads .now) (a .state) (a .out .now) (a .name .now) (a .epoch) (g .grow .result) (g .grow .last .1 .1 .1 .1 .0) (g .grow .last .1 .1 .1 .1 .1 .0) (g .grow .ensures) (not-true (g .grow .result .clear) (c .if1 .taken)))
+    Clear (allAt plain (a .epoch) (recordsIn (a .state .count) (a .records .now))) (take (g .grow .result .leaves * 68) (g .grow .last .1 .1 .1 .1 .0)) (take (g .grow .result .leaves * 64) (g .grow .last .1 .1 .1 .1 .1 .0)) (g .grow .result)
+all-clear c = let g = grown c in cleared _ (g .grow .last .1 .1 .1 .1 .0) (g .grow .last .1 .1 .1 .1 .1 .0) (g .grow .result) (g .grow .ensures) (not-false (g .grow .result .clear) (c .if1 .left))
 
-row-requires-2 : tie.Need-row-requires-2
-row-requires-2 c κs = search needs
+mul-size : tie.Need-mul-size
+mul-size c = search needs
 
-slots-requires-2 : tie.Need-slots-requires-2
-slots-requires-2 c κs = search needs
-
-slice-aggregate-grow-3 : tie.Need-slice-aggregate-grow-3
-slice-aggregate-grow-3 c = search needs
-
-slice-aggregate-grow-4 : tie.Need-slice-aggregate-grow-4
-slice-aggregate-grow-4 c = search needs
-
-grow-requires-2 : tie.Need-grow-requires-2
-grow-requires-2 c κs = search needs
-
-returns-2 : tie.Need-returns-2
-returns-2 c =
-    let w = c .before .before .before .before in
-    let e = w .before .before .before .before .before in
-    let g = e .before .before .before .before in
-    let a = start g .args in
-    sym (old-refused (a .history) (a .records .now) (a .heads .now) (a .state) (a .out .now) (a .name .now) (a .epoch) (g .grow .result) (g .grow .last .1 .1 .1 .1 .0) (g .grow .last .1 .1 .1 .1 .1 .0) (g .grow .ensures) (alone e) (w .grow2 .result) (w .grow2 .last .1 .1 .1 .1 .0) (w .grow2 .last .1 .1 .1 .1 .1 .0) (w .grow2 .ensures) (not-true (w .grow2 .result .clear) (c .if2 .taken)))
-
-mul-a : tie.Need-mul-a
-mul-a c = search needs
-
-mul-b : tie.Need-mul-b
-mul-b c = search needs
-
-mul-c : tie.Need-mul-c
-mul-c c = search needs
-
-mul-d : tie.Need-mul-d
-mul-d c = search needs
+mul-room : tie.Need-mul-room
+mul-room c = search needs
 
 array-share-prefix-leaves : tie.Need-array-share-prefix-leaves
-array-share-prefix-leaves c = c .before .before .before .before .before .before .before .before .before .before .before .before .before .before .before .before .before .grow .ensures .within
+array-share-prefix-leaves c = search needs
 
-slice-aggregate-write-from : tie.Need-slice-aggregate-write-from
-slice-aggregate-write-from c = sym (length-take-le _ _ (c .before .before .before .before .before .before .before .before .before .before .before .before .before .before .before .before .before .before .grow .ensures .within))
+slice-aggregate-write-beside : tie.Need-slice-aggregate-write-beside
+slice-aggregate-write-beside c = sym (length-take-le _ _ (grown (c .before .before .before) .grow .ensures .within))
 
 array-share-prefix-digests : tie.Need-array-share-prefix-digests
-array-share-prefix-digests c = c .before .before .before .before .before .before .before .before .before .before .before .before .before .before .before .before .before .before .grow .ensures .reach
+array-share-prefix-digests c = search needs
 
-slice-aggregate-write-from-2 : tie.Need-slice-aggregate-write-from-2
-slice-aggregate-write-from-2 c = sym (length-take-le _ _ (c .before .before .before .before .before .before .before .before .before .before .before .before .before .before .before .before .before .before .before .grow .ensures .reach))
+slice-aggregate-write-beside-2 : tie.Need-slice-aggregate-write-beside-2
+slice-aggregate-write-beside-2 c = sym (length-take-le _ _ (grown (c .before .before .before .before) .grow .ensures .reach))
 
-array-share-prefix-replaced : tie.Need-array-share-prefix-replaced
-array-share-prefix-replaced c = search needs
-
-slice-aggregate-write-from-3 : tie.Need-slice-aggregate-write-from-3
-slice-aggregate-write-from-3 c = sym (length-take-le _ _ (c .before .before .before .before .before .before .before .before .before .before .before .grow2 .ensures .within))
-
-array-share-prefix-beneath : tie.Need-array-share-prefix-beneath
-array-share-prefix-beneath c = search needs
-
-slice-aggregate-write-from-4 : tie.Need-slice-aggregate-write-from-4
-slice-aggregate-write-from-4 c = sym (length-take-le _ _ (c .before .before .before .before .before .before .before .before .before .before .before .before .grow2 .ensures .reach))
-
-write-from-requires : tie.Need-write-from-requires
-write-from-requires c κs =
-    let f = c .before .before .before .before .before .before .before .before .before in
-    let w = f .before .before .before .before in
-    let e = w .before .before .before .before .before in
-    let g = e .before .before .before .before in
-    let a = start g .args in
-    (start g .pre .0, trees (a .history) (a .records .now) (a .heads .now) (a .state) (a .out .now) (a .name .now) (a .epoch) (g .grow .result) (g .grow .last .1 .1 .1 .1 .0) (g .grow .last .1 .1 .1 .1 .1 .0) (g .grow .ensures) (alone e) (w .grow2 .result) (w .grow2 .last .1 .1 .1 .1 .0) (w .grow2 .last .1 .1 .1 .1 .1 .0) (w .grow2 .ensures) (not-false (w .grow2 .result .clear) (f .if2 .left)) (start g .pre .0) (start g .pre .1))
+write-beside-requires : tie.Need-write-beside-requires
+write-beside-requires c κs =
+    let e = c .before .before .before .before .before in
+    let s = start (grown e) in
+    (s .pre .0, s .pre .1, all-clear e)
 
 same-length : tie.Need-same-length
 same-length c = search needs
 
-returns-3 : tie.Need-returns-3
-returns-3 c =
-    let f = c .before .before .before .before .before .before .before .before .before .before .before .before in
-    let w = f .before .before .before .before in
-    let e = w .before .before .before .before .before in
-    let g = e .before .before .before .before in
-    let a = start g .args in
-    c .before .before .write-from .ensures ∙ sym (rest-is (a .history) (a .records .now) (a .heads .now) (a .state) (a .out .now) (a .name .now) (a .epoch) (g .grow .result) (g .grow .last .1 .1 .1 .1 .0) (g .grow .last .1 .1 .1 .1 .1 .0) (g .grow .ensures) (alone e) (w .grow2 .result) (w .grow2 .last .1 .1 .1 .1 .0) (w .grow2 .last .1 .1 .1 .1 .1 .0) (w .grow2 .ensures) (not-false (w .grow2 .result .clear) (f .if2 .left)) (start g .pre .0) (start g .pre .1))
+returns-2 : tie.Need-returns-2
+returns-2 c = search needs
 
 pub write-shaped-spec : {M : Type 1} → statement M
 write-shaped-spec =
@@ -130,24 +92,12 @@ write-shaped-spec =
     slice-aggregate-grow-2
     grow-requires
     returns
-    row-requires-2
-    slots-requires-2
-    slice-aggregate-grow-3
-    slice-aggregate-grow-4
-    grow-requires-2
-    returns-2
-    mul-a
-    mul-b
-    mul-c
-    mul-d
+    mul-size
+    mul-room
     array-share-prefix-leaves
-    slice-aggregate-write-from
+    slice-aggregate-write-beside
     array-share-prefix-digests
-    slice-aggregate-write-from-2
-    array-share-prefix-replaced
-    slice-aggregate-write-from-3
-    array-share-prefix-beneath
-    slice-aggregate-write-from-4
-    write-from-requires
+    slice-aggregate-write-beside-2
+    write-beside-requires
     same-length
-    returns-3)
+    returns-2)

@@ -1,0 +1,2 @@
+-- Laws of laying an audit proof.
+pub mod Bytes

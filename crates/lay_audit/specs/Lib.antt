@@ -1,0 +1,2 @@
+-- What the contracts of laying an audit proof cite.
+pub mod Audited

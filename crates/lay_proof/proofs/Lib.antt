@@ -1,0 +1,2 @@
+-- Laws of laying a lookup or history proof.
+pub mod Bytes

@@ -1,0 +1,2 @@
+-- What the contracts of laying a lookup or history proof cite.
+pub mod Judged
