@@ -6,7 +6,7 @@ ghost use mathlib.Core.List.{_++_};
 ghost use Rattle.record.specs.Places.{recordsIn};
 ghost use Rattle.gather.specs.Gathered.{leavesBy};
 ghost use Rattle.level.specs.Rooted.{Roots};
-ghost use Rattle.publish.specs.Weighed.{Plantable};
+ghost use Rattle.new_epoch.specs.Headed.{Plantable};
 
 // Room for 8,192 leaves: a record gives a tree two at most.
 fn row() -> [u8; 557056] {

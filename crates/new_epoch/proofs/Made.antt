@@ -3,32 +3,31 @@ use mathlib.Core.Path.{_≡_, sym, ap, ap₂, _∙_}
 use mathlib.Core.List.{_++_, append-assoc}
 use Prim.Native.Nat.{ℕ, _+_, _≤_}
 use native.Mathlib.Omega.{arith}
-use lib.ListN.{length, take, drop, length-append, length-drop}
-use lib.Seq.{length-take-le, drop-drop, take-at, drop-at}
+use lib.ListN.{length, take, drop, length-append}
+use lib.Seq.{length-take-le, take-at, drop-at}
 use Rattle.paper.specs.Bytes.{Bytes, be, pasted}
 use Rattle.paper.specs.Layout.{view, seq, such, within, block}
 use Rattle.paper.specs.Table.{Update, filledField, recordField, updateField}
 use Rattle.paper.proofs.Bytes.{be-length}
 use Rattle.paper.proofs.Kept.{filled-length}
 use Rattle.paper.proofs.Pasted.{pasted-pasted}
-use Rattle.publish.specs.Weighed.{recordOver}
+use Rattle.new_epoch.specs.Prepared.{recordOver}
 
 -- four parts, one behind the other
-pub laid : (o batch : Bytes) (from at v e : ℕ) → from + 162 ≤ length batch → at ≤ length o
-    → pasted (pasted (pasted (pasted o at (take 65 (drop from batch))) (at + 65) (be 2 v)) (at + 67) (be 4 e)) (at + 71) (take 97 (drop (from + 65) batch))
-    ≡ pasted o at (recordOver (drop from batch) v e)
+pub laid : (o u : Bytes) (at v e : ℕ) → 162 ≤ length u → at ≤ length o
+    → pasted (pasted (pasted (pasted o at (take 65 u)) (at + 65) (be 2 v)) (at + 67) (be 4 e)) (at + 71) (take 97 (drop 65 u))
+    ≡ pasted o at (recordOver u v e)
 unfolding recordOver
-laid o batch from at v e h k =
-    let u = drop from batch in
+laid o u at v e h k =
     let a = take 65 u in
     let d = take 97 (drop 65 u) in
-    let front : length a ≡ 65 = length-take-le 65 u (omega (arith, length-drop from batch)) in
+    let front : length a ≡ 65 = length-take-le 65 u (omega arith) in
     let i : 67 ≡ length (a ++ be 2 v) = omega (arith, length-append a (be 2 v), be-length 2 v) in
     let j : 71 ≡ length ((a ++ be 2 v) ++ be 4 e) = omega (arith, length-append (a ++ be 2 v) (be 4 e), length-append a (be 2 v), be-length 2 v, be-length 4 e) in
     let one = ap (λ m. pasted (pasted o at a) (at + m) (be 2 v)) (sym front) ∙ pasted-pasted o at a (be 2 v) k in
     let two = ap₂ (λ x m. pasted x (at + m) (be 4 e)) one i ∙ pasted-pasted o at (a ++ be 2 v) (be 4 e) k in
     let three = ap₂ (λ x m. pasted x (at + m) d) two j ∙ pasted-pasted o at ((a ++ be 2 v) ++ be 4 e) d k in
-    rw (← (drop-drop 65 from batch)) (three ∙ ap (pasted o at) (append-assoc (a ++ be 2 v) (be 4 e) d ∙ append-assoc a (be 2 v) (be 4 e ++ d)))
+    three ∙ ap (pasted o at) (append-assoc (a ++ be 2 v) (be 4 e) d ∙ append-assoc a (be 2 v) (be 4 e ++ d))
 
 -- "a record without version and epoch", and back
 pub over-bytes : (u : Update) (rest : Bytes) (v e : ℕ) → updateField .Fits u

@@ -1,4 +1,4 @@
--- `publish::plant::plant`: the leaves of the table's records and behind them those of the new ones are the tree's.
+-- `new_epoch::plant::plant`: the leaves of the table's records and behind them those of the new ones are the tree's.
 use borrow.Author.Needs.{needs}
 use native.Mathlib.Omega.{arith}
 use mathlib.Core.Path.{sym, ap, _∙_, subst}
@@ -13,13 +13,13 @@ use Rattle.bit_order.proofs.Leaves.{leaves-none, leaves-cut}
 use Rattle.gather.proofs.Row.{gain-more}
 use Rattle.gather.proofs.Leaves.{by-append, by-few}
 use Rattle.level.specs.Rooted.{Roots}
-use Rattle.publish.proofs.plant.plant.Statement.{statement}
-use Rattle.publish.proofs.plant.plant.Tie as tie
-use Rattle.publish.proofs.plant.plant.Reads as reads
-use Rattle.publish.proofs.plant.plant.Lts as lts
+use Rattle.new_epoch.proofs.plant.plant.Statement.{statement}
+use Rattle.new_epoch.proofs.plant.plant.Tie as tie
+use Rattle.new_epoch.proofs.plant.plant.Reads as reads
+use Rattle.new_epoch.proofs.plant.plant.Lts as lts
 use Rattle.gather.proofs.gather.Reads as gather-reads
 use Rattle.level.proofs.root_of.Reads as root-of-reads
-use Rattle.publish.proofs.plant.row.Reads as row-reads
+use Rattle.new_epoch.proofs.plant.row.Reads as row-reads
 
 -- src/plant.rt:21:19
 row-requires : tie.Need-row-requires

@@ -1,23 +1,27 @@
--- `publish::fresh::prepare`: the records of the updates passed stand at the start.
+-- `new_epoch::fresh::prepare`: the records of the updates passed stand at the start.
 use borrow.Author.Needs.{needs}
 use borrow.Author.Tests.{not-true, not-false}
 use native.Mathlib.Numerals.{add-one}
 use native.Mathlib.Omega.{arith}
-use mathlib.Core.Path.{_≡_, refl, sym, _∙_, subst}
+use mathlib.Core.Path.{_≡_, refl, sym, ap, _∙_, subst}
 use mathlib.Core.Bool.{false≢true}
 use Prim.Native.Nat.{ℕ, suc, _-_, _*_, _≤_, _<_}
 use lib.ListN.{length}
+use Rattle.paper.specs.Bytes.{pasted}
+use Rattle.paper.specs.Layout.{timesBytes}
+use Rattle.paper.specs.Table.{recordField}
 use Rattle.ranges.proofs.Slices.{bytewise}
 use Rattle.batch.proofs.Form.{formed-lies}
-use Rattle.publish.proofs.Prepared.{Begun, begun-none, begun-more, begun-stop}
-use Rattle.publish.proofs.fresh.prepare.Statement.{statement}
-use Rattle.publish.proofs.fresh.prepare.Tie as tie
-use Rattle.publish.proofs.fresh.prepare.Reads as reads
-use Rattle.publish.proofs.fresh.prepare.Lts as lts
-use Rattle.publish.proofs.fresh.lay_next.Reads as lay-next-reads
+use Rattle.new_epoch.specs.Prepared.{newRecords}
+use Rattle.new_epoch.proofs.Prepared.{Begun, begun-none, begun-front, begun-more, begun-stop, begun-laid, while-all}
+use Rattle.new_epoch.proofs.fresh.prepare.Statement.{statement}
+use Rattle.new_epoch.proofs.fresh.prepare.Tie as tie
+use Rattle.new_epoch.proofs.fresh.prepare.Reads as reads
+use Rattle.new_epoch.proofs.fresh.prepare.Lts as lts
+use Rattle.new_epoch.proofs.fresh.lay_next.Reads as lay-next-reads
 
 abbrev Inv-loop : tie.InvT-loop
-Inv-loop records count first next batch n epoch fresh₀ i₀ fresh i = (i ≤ n) × (length fresh ≡ length fresh₀) × Begun records count epoch batch i fresh
+Inv-loop records count first next batch n epoch fresh₀ i₀ fresh i = (i ≤ n) × (length fresh ≡ length fresh₀) × Begun records count epoch batch i fresh₀ fresh
 
 abbrev μ-loop : tie.MeasureT-loop
 μ-loop records count first next batch n epoch fresh₀ i₀ fresh i = n - i
@@ -49,8 +53,15 @@ returns : tie.Need-returns Inv-loop μ-loop
 returns c =
     let a = c .before .before .before .before .before .before .before .before .before .before .before .before .args in
     let at = c .before .before .before .before .before .before .loop in
-    let e = sym (c .before .before .before .lay-next .ensures .is) ∙ not-true (c .before .before .before .lay-next .result) (c .if1 .taken) in
-    record { is = sym (begun-stop (a .records .now) (a .count) (a .epoch) (a .batch .now) (a .n) (at .i) (c .before .before .before .before .before .loop-test .taken) e); bytes = λ q. absurd (false≢true q) }
+    let laid = c .before .before .before .lay-next in
+    let h = c .before .before .before .before .before .loop-test .taken in
+    let r = not-true (laid .result) (c .if1 .taken) in
+    let e = sym (laid .ensures .is) ∙ r in
+    record {
+      is = sym (begun-stop (a .records .now) (a .count) (a .epoch) (a .batch .now) (a .n) (at .i) h e);
+      bytes = λ q. absurd (false≢true q);
+      laid = laid .ensures .same r ∙ at .inv .2 .laid ∙ ap (λ l. pasted (a .fresh .now) 0 (timesBytes (recordField .bytes) l)) (sym (begun-laid (a .records .now) (a .count) (a .epoch) (a .batch .now) (a .n) (at .i) h e (at .inv .2 .versions)));
+    }
 
 -- src/fresh.rt:66:9
 add-i : tie.Need-add-i Inv-loop μ-loop
@@ -70,11 +81,10 @@ loop-again c =
     let laid = c .before .before .before .lay-next in
     let e = not-false (laid .result) (c .if1 .left) in
     let reach = reached (a .n) (at .i) (length (a .batch .now)) h (start .pre .1) in
-    let w = bytewise (a .batch .now) (c .before .before .before .before .before .before .before .before .shared-slice-known4 .given) in
-    let room : at .i * 168 ≤ length (at .fresh) = omega (arith, h, start .pre .2, at .inv .1) in (
+    let w = bytewise (a .batch .now) (c .before .before .before .before .before .before .before .before .shared-slice-known4 .given) in (
       omega (arith, h),
       laid .kept .1 .1 .1 .1 .1 .1 .1 .0 ∙ at .inv .1,
-      rw (add-one (at .i)) (begun-more (a .records .now) (a .count) (a .epoch) (a .batch .now) w (omega (arith, start .fits .epoch)) (at .i) reach (start .pre .0 .formed (at .i) reach) (sym (laid .ensures .is) ∙ e) (at .fresh) _ room (at .inv .2) (laid .ensures .bytes e)),
+      rw (add-one (at .i)) (begun-more (a .records .now) (a .count) (a .epoch) (a .batch .now) w (omega (arith, start .fits .epoch)) (at .i) reach (start .pre .0 .formed (at .i) reach) (sym (laid .ensures .is) ∙ e) (a .fresh .now) (at .fresh) _ (at .inv .2) (laid .ensures .bytes e)),
     )
 
 -- src/fresh.rt:53:1
@@ -87,8 +97,12 @@ returns-2 c =
     let a = c .before .before .before .before .before .before .before .args in
     let at = c .before .loop in
     let n : at .i ≡ a .n = omega (arith, at .inv .0, c .loop-test .left) in
-    let done = subst (λ k. Begun (a .records .now) (a .count) (a .epoch) (a .batch .now) k (at .fresh)) n (at .inv .2) in
-    record { is = sym (done .versions); bytes = λ _. done .bytes }
+    let done = subst (λ k. Begun (a .records .now) (a .count) (a .epoch) (a .batch .now) k (a .fresh .now) (at .fresh)) n (at .inv .2) in
+    record {
+      is = sym (done .versions);
+      bytes = λ _. begun-front (a .records .now) (a .count) (a .epoch) (a .batch .now) (a .n) (a .fresh .now) (at .fresh) done;
+      laid = done .laid ∙ ap (λ l. pasted (a .fresh .now) 0 (timesBytes (recordField .bytes) l)) (sym (while-all (newRecords (a .records .now) (a .count) (a .epoch) (a .batch .now) (a .n)) (done .versions)));
+    }
 
 pub prepare-spec : {M : Type 1} → statement M
 prepare-spec =
