@@ -27,7 +27,7 @@ pub fn filled(s: &[u8], at: usize) -> bool
 }
 
 // Whether record i is in layout. Its epoch and its opening are any bytes.
-pub(crate) fn in_form(s: &[u8], i: usize) -> bool
+pub fn in_form(s: &[u8], i: usize) -> bool
     requires { ⌜ suc i * 168 ≤ length (now s) ⌝ }
     ensures { λ r. ⌜ r ≡ inLayout (recordField .read (drop (i * 168) (now (s .entry)))) ⌝ }
 {

@@ -1,4 +1,4 @@
--- `table::form::in_form`: the tests are those of the layout; an epoch and an opening are any bytes.
+-- `record_form::in_form`: the tests are those of the layout; an epoch and an opening are any bytes.
 use borrow.Author.Needs.{needs}
 use borrow.Author.Tests.{not-true, not-false}
 use native.Mathlib.Omega.{arith}
@@ -8,9 +8,9 @@ use mathlib.Core.Bool.{true}
 use Rattle.paper.specs.Bytes.{Bytewise}
 use Rattle.paper.specs.Fields.{isName}
 use Rattle.ranges.proofs.Slices.{bytewise}
-use Rattle.table.proofs.Formed.{nameFormed, keyFormed, formed-nameless, formed-keyless, formed-out, formed-name, stands-by}
-use Rattle.table.proofs.form.in_form.Statement.{statement}
-use Rattle.table.proofs.form.in_form.Tie as tie
+use Rattle.record_form.proofs.Formed.{nameFormed, keyFormed, formed-nameless, formed-keyless, formed-out, formed-name, stands-by}
+use Rattle.record_form.proofs.in_form.Statement.{statement}
+use Rattle.record_form.proofs.in_form.Tie as tie
 
 bytes : (c : tie.After-shared-slice-known) → Bytewise (c .before .args .s .now)
 bytes c = bytewise (c .before .args .s .now) (c .shared-slice-known .given)

@@ -1,12 +1,12 @@
--- `table::form::filled`: the length decides, and then the bytes behind so many.
+-- `record_form::filled`: the length decides, and then the bytes behind so many.
 use borrow.Author.Needs.{needs}
 use native.Mathlib.Omega.{arith}
 use mathlib.Core.Path.{sym, _∙_}
 use mathlib.Core.Logic.{inl, inr}
 use Rattle.ranges.proofs.Slices.{bytewise}
-use Rattle.table.proofs.Formed.{filled-out, filled-rest}
-use Rattle.table.proofs.form.filled.Statement.{statement}
-use Rattle.table.proofs.form.filled.Tie as tie
+use Rattle.record_form.proofs.Formed.{filled-out, filled-rest}
+use Rattle.record_form.proofs.filled.Statement.{statement}
+use Rattle.record_form.proofs.filled.Tie as tie
 
 returns : tie.Need-returns
 returns c =
