@@ -17,7 +17,7 @@ use Rattle.paper.proofs.Lists.{true-or-false, not-both, and-left, all-drop}
 use Rattle.fields.proofs.Flat.{Flat, flat-as, flat-in, flat-yes, block-flat, seq-flat, view-flat, such-flat}
 use Rattle.fields.proofs.Many.{many-yes, many-no}
 use Rattle.record.proofs.Form.{filledTest, filledIn, filled-flat}
-use Rattle.table.proofs.Formed.{filled-is, filled-short}
+use Rattle.record_form.proofs.Formed.{filled-is, filled-short}
 use Rattle.batch.specs.Places.{updateIn, updateAt, updatesIn, Lies}
 
 -- what is tested of an update

@@ -2,7 +2,7 @@
 use names::is_name;
 use ranges::same;
 use record::filled_at;
-use table::filled;
+use record_form::filled;
 ghost use mathlib.Core.Path.{_≡_};
 ghost use Prim.Native.Nat.{ℕ, suc, _*_, _≤_, _<_};
 ghost use lib.ListN.{length, drop};

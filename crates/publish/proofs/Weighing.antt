@@ -6,7 +6,7 @@ use mathlib.Core.List.{List, [], _++_}
 use Prim.Native.Nat.{ℕ, suc, _+_, _*_, _/_, _%_, _^_, _≤_, _<_}
 use native.Mathlib.Omega.{arith}
 use lib.Dec.{eqb, leb}
-use lib.ListN.{length, take, drop, length-map}
+use lib.ListN.{length, take, length-map}
 use borrow.Author.Tests.{eqb-true, leb-true}
 use Rattle.paper.specs.Lists.{All, every}
 use Rattle.paper.specs.Numbers.{wide, versionMost, recordSize, updateSize, headsMost, INPUT, TABLE, TWICE, FULL, CLASH}
@@ -26,10 +26,12 @@ use Rattle.paper.proofs.Fits.{digest-wide}
 use Rattle.record.specs.Places.{recordsIn, Stands}
 use Rattle.table.specs.Shape.{shaped, Shaped}
 use Rattle.table.proofs.Read.{counted-told, counted-stands}
-use Rattle.batch.specs.Places.{updatesIn, Lies}
+use Rattle.batch.specs.Places.{updatesIn}
 use Rattle.batch.proofs.Places.{updates-length, in-updates}
 use Rattle.batch.proofs.Form.{batch-read, batch-formed, batch-lies, update-told}
-use Rattle.publish.specs.Weighed.{inputGood, refusedBy, newRecords, apart, Clear, Weighs}
+use Rattle.new_epoch.specs.Prepared.{newRecords, numbered}
+use Rattle.new_epoch.specs.Headed.{apart}
+use Rattle.publish.specs.Weighed.{inputGood, Good, Clear, Laid, Tested}
 use Rattle.publish.proofs.Tests.{out-of-bounds, out-of-layout, out-of-shape, twice, full, clash, passed}
 
 module _ (records heads : Bytes) (count epoch : ℕ) (batch : Bytes) where
@@ -44,8 +46,8 @@ module _ (records heads : Bytes) (count epoch : ℕ) (batch : Bytes) where
 
   -- a refusal's number is not 0
   pub refuses : (number : ℕ) (fresh : Bytes) → ¬ (number ≡ 0) → publish plain records heads state batch ≡ unpublished plain records heads state number
-      → Weighs records heads state batch fresh (refusedBy number)
-  refuses number fresh z e = record { refused = λ _. e; clear = λ q. absurd (z q) }
+      → Tested records heads state batch fresh number
+  refuses number fresh z e = record { refused = λ _. e; laid = λ q. absurd (z q) }
 
   -- ---- 1
 
@@ -56,15 +58,7 @@ module _ (records heads : Bytes) (count epoch : ℕ) (batch : Bytes) where
       (λ w. out-of-bounds records heads state batch w)
       (true-or-false (recordsWithin records && (headsWithin heads && batchWithin batch)))
 
-  pub record Good : Type 0 where
-    pub within : (recordsWithin records && (headsWithin heads && batchWithin batch)) ≡ true
-    pub layout : parse (times n updateField) batch ≡ got us []
-    pub size : length batch ≡ n * updateSize
-    pub few : n ≤ 256
-    pub formed : (i : ℕ) → suc i * updateSize ≤ length batch → inLayout (updateField .read (drop (i * updateSize) batch)) ≡ true
-    pub lies : (i : ℕ) → i < n → Lies batch i
-
-  pub good : Bytewise batch → inputGood records heads batch ≡ true → Good
+  pub good : Bytewise batch → inputGood records heads batch ≡ true → Good records heads batch
   unfolding inputGood batchWithin
   good w e =
       let bounds = and-left _ _ e in
@@ -82,18 +76,18 @@ module _ (records heads : Bytes) (count epoch : ℕ) (batch : Bytes) where
       }
 
   -- an epoch in the head table has few bits
-  epoch-few : Good → (epoch + 2) * wide ≤ length heads → suc epoch < headsMost
+  epoch-few : Good records heads batch → (epoch + 2) * wide ≤ length heads → suc epoch < headsMost
   unfolding headsWithin
   epoch-few g h =
       let w = and-left _ _ (and-right (recordsWithin records) _ (g .within)) in
       let k = leb-true (length heads / wide) headsMost (and-right (leb 1 (length heads / wide)) _ (and-right (eqb (length heads % wide) 0) _ w)) in
       omega (arith, k)
 
-  pub epoch-small : Good → (epoch + 2) * wide ≤ length heads → suc epoch < 2 ^ 32
+  pub epoch-small : Good records heads batch → (epoch + 2) * wide ≤ length heads → suc epoch < 2 ^ 32
   epoch-small g h = omega (arith, epoch-few g h)
 
   -- the table has at most 4,096 records
-  pub records-few : Good → length records ≤ 4096 * 168
+  pub records-few : Good records heads batch → length records ≤ 4096 * 168
   unfolding recordsWithin
   records-few g =
       let w = and-left _ _ (g .within) in
@@ -103,12 +97,12 @@ module _ (records heads : Bytes) (count epoch : ℕ) (batch : Bytes) where
 
   -- ---- 11
 
-  pub table-refuses : Good → shaped records heads count epoch ≡ false → publish plain records heads state batch ≡ unpublished plain records heads state TABLE
+  pub table-refuses : Good records heads batch → shaped records heads count epoch ≡ false → publish plain records heads state batch ≡ unpublished plain records heads state TABLE
   table-refuses g e = out-of-shape records heads state batch us (g .within) (g .layout) e
 
   -- ---- 9, 6, 7
 
-  module _ (g : Good) (s : Shaped records heads count epoch) where
+  module _ (g : Good records heads batch) (s : Shaped records heads count epoch) where
     abbrev rs : List Record
     rs = recordsIn count records
 
@@ -119,7 +113,7 @@ module _ (records heads : Bytes) (count epoch : ℕ) (batch : Bytes) where
     room = leb ((count + n) * recordSize) (length records) && leb ((epoch + 2) * wide) (length heads)
 
     abbrev versions : Bool
-    versions = every (λ q. leb (q .version) versionMost) more
+    versions = every numbered more
 
     fits-is : (leb ((count + length us) * recordSize) (length records) && (leb ((epoch + 2) * wide) (length heads) && versions)) ≡ (room && versions)
     fits-is = rw (updates-length n batch) (by (leb ((count + n) * recordSize) (length records)))
@@ -148,7 +142,7 @@ module _ (records heads : Bytes) (count epoch : ℕ) (batch : Bytes) where
     free : room ≡ true → (count + n) * recordSize ≤ length records
     free r = leb-true ((count + n) * recordSize) (length records) (and-left _ _ r)
 
-    slot : room ≡ true → (epoch + 2) * wide ≤ length heads
+    pub slot : room ≡ true → (epoch + 2) * wide ≤ length heads
     slot r = leb-true ((epoch + 2) * wide) (length heads) (and-right (leb ((count + n) * recordSize) (length records)) _ r)
 
     pub clear-leaves : once plain us ≡ true → room ≡ true → versions ≡ true → apart epoch (rs ++ more) ≡ true → (fresh head : Bytes)
@@ -166,23 +160,32 @@ module _ (records heads : Bytes) (count epoch : ℕ) (batch : Bytes) where
 
     -- ---- the new records, where they are prepared
 
-    module _ (w : Bytewise batch) (small : suc epoch < 2 ^ 32) (v : versions ≡ true) where
+    module _ (w : Bytewise batch) (o : once plain us ≡ true) (r : room ≡ true) (v : versions ≡ true) where
       more-fit : All (recordField .Fits) more
-      more-fit = in-all _ more (λ r m.
-          let (u, k, e) = map-in (newRecord plain rs (suc epoch)) us r m in
-          let (i, h, q) = in-updates n batch u k in
+      more-fit = in-all _ more (λ q m.
+          let (u, k, e) = map-in (newRecord plain rs (suc epoch)) us q m in
+          let (i, h, p) = in-updates n batch u k in
           let reach : suc i * updateSize ≤ length batch = omega (arith, g .size) in
-          let f : updateField .Fits u = rw q (update-told batch i w reach (g .formed i reach) .0) in
-          let l = leb-true (r .version) versionMost (all-in _ more (every-all _ more v) r m) in
-          rw e (record-new plain rs (suc epoch) u f (rw e at l) small))
+          let f : updateField .Fits u = rw p (update-told batch i w reach (g .formed i reach) .0) in
+          let l = leb-true (q .version) versionMost (all-in _ more (every-all _ more v) q m) in
+          rw e (record-new plain rs (suc epoch) u f (rw e at l) (epoch-small g (slot r))))
 
       module _ (fresh : Bytes) (f : Bytewise fresh) (b : take (n * recordSize) fresh ≡ timesBytes (recordField .bytes) more) where
         fresh-read : counted fresh n ≡ got more []
         unfolding counted times
         fresh-read = ap (parse (times n recordField)) b ∙ parse-bytes (times-lawful n record-lawful) more (count-is, more-fit)
 
-        pub fresh-stand : (i : ℕ) → i < n → Stands fresh i
+        fresh-stand : (i : ℕ) → i < n → Stands fresh i
         fresh-stand = counted-stands fresh f n more [] fresh-read
 
-        pub fresh-is : recordsIn n fresh ≡ more
+        fresh-is : recordsIn n fresh ≡ more
         fresh-is = sym (counted-told fresh f n more [] fresh-read .is)
+
+        pub laid : Laid records heads state batch fresh
+        laid = record {
+          plantable = record { stand = s .stands; new = fresh-stand; few = omega (arith, free r, records-few g) };
+          slot = slot r;
+          epochs = epoch-few g (slot r);
+          clash = λ e. clash-refuses o r v (rw fresh-is at e);
+          clear = λ e head h. clear-leaves o r v (rw fresh-is at e) fresh head b (h ∙ rw fresh-is);
+        }

@@ -3,6 +3,5 @@ pub mod Last
 pub mod Walk
 pub mod Own
 pub mod Rules
-pub mod Formed
 pub mod Read
 pub mod Shapes

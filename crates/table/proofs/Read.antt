@@ -22,7 +22,7 @@ use Rattle.fields.proofs.Many.{many-yes, many-no}
 use Rattle.record.specs.Places.{recordAt, recordsIn, Stands}
 use Rattle.record.proofs.Places.{records-take}
 use Rattle.record.proofs.Form.{filledTest, filledIn, recordTest, record-flat, records-back}
-use Rattle.table.proofs.Formed.{formed, formed-stands}
+use Rattle.record_form.proofs.Formed.{formed, formed-stands}
 
 -- ---- a record is in layout or not by its own 168 bytes
 

@@ -20,7 +20,7 @@ use Rattle.record.specs.Places.{recordAt, recordsIn}
 use Rattle.table.specs.Index.{Indexed}
 use Rattle.table.specs.Shape.{shapedRead, shaped, Counted, Tested, Shaped}
 use Rattle.table.proofs.Rules.{shape-none, shape-more, shape-stop}
-use Rattle.table.proofs.Formed.{formed}
+use Rattle.record_form.proofs.Formed.{formed}
 use Rattle.table.proofs.Read.{counted-told, counted-short, counted-got, counted-bad, counted-stands}
 
 -- the first i records have passed

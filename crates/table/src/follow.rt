@@ -1,10 +1,10 @@
 // The rules that a record obeys behind those before it. Each looks at one earlier record: the one before, and the name's last one.
-use crate::form::in_form;
 use crate::index::enter;
 use crate::index::last_of;
 use record::epoch_at;
 use record::name_at;
 use record::version_at;
+use record_form::in_form;
 ghost use mathlib.Core.Path.{_≡_};
 ghost use Prim.Native.Nat.{ℕ, _*_, _≤_};
 ghost use lib.ListN.{length};

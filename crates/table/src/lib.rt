@@ -1,11 +1,9 @@
 // Whether tables are in shape, and an index over the names of their records, so that the test is not quadratic. The counted
 // records are taken in order: each is tested against those before it and then entered into the index.
 mod follow;
-mod form;
 mod index;
 
 use follow::all_follow;
-pub use form::filled;
 use index::clear;
 use index::last_of;
 use record::version_at;

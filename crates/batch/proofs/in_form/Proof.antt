@@ -13,7 +13,7 @@ use Rattle.batch.proofs.in_form.Reads as reads
 use Rattle.batch.proofs.in_form.Lts as lts
 use Rattle.batch.proofs.name_in.Reads as name-in-reads
 use Rattle.names.proofs.is_name.Reads as is-name-reads
-use Rattle.table.proofs.filled.Reads as filled-reads
+use Rattle.record_form.proofs.filled.Reads as filled-reads
 
 -- src/lib.rt:30:14
 mul-at : tie.Need-mul-at

@@ -11,7 +11,7 @@ use Rattle.paper.specs.Bytes.{Bytewise}
 use Rattle.record.specs.Places.{Stands}
 use Rattle.ranges.proofs.Slices.{bytewise}
 use Rattle.table.specs.Index.{Indexed}
-use Rattle.table.proofs.Formed.{formed, formed-stands}
+use Rattle.record_form.proofs.Formed.{formed, formed-stands}
 use Rattle.table.proofs.Walk.{stands-more}
 use Rattle.table.proofs.Shapes.{Passed, passed-none, passed-more, form-fails, rule-fails, all-pass}
 use Rattle.table.proofs.follow.all_follow.Statement.{statement}

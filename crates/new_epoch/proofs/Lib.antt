@@ -1,0 +1,3 @@
+-- Laws of new records and their bytes.
+pub mod Made
+pub mod Prepared

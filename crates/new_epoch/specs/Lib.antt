@@ -1,0 +1,3 @@
+-- What the contracts of what a batch adds cite.
+pub mod Headed
+pub mod Prepared
