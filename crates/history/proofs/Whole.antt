@@ -16,8 +16,9 @@ use Rattle.plan.specs.declared.Place.the-variants.{InOld}
 use Rattle.shown.specs.declared.Asked.{Asked}
 use Rattle.shown.specs.declared.Walk.{Walk}
 use Rattle.shown.proofs.Walked.{walks-append}
-use Rattle.history.specs.Asks.{askVersion, askReplaced, askMarker, lack, row, lacks, asks, used}
-use Rattle.history.proofs.Going.{row-length, used-walked, used-walks}
+use Rattle.history_rows.specs.Rows.{askVersion, askReplaced, askMarker, lack, row, lacks, used}
+use Rattle.history.specs.Asks.{asks}
+use Rattle.history_rows.proofs.Going.{row-length, used-walked, used-walks}
 
 -- with no versions, the paths are the markers that there can be
 pub markers-counted : (T r : ℕ) → r ≡ length (historyAsked 0 T) → (r ≡ markersBy T) × (r ≤ 10)

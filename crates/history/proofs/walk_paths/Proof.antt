@@ -7,9 +7,9 @@ use Rattle.paper.specs.Bytes.{Bytewise}
 use Rattle.paper.specs.Bits.{log2}
 use Rattle.ranges.proofs.Slices.{bytewise}
 use Rattle.plan.specs.declared.Place.the-variants.{InAll}
-use Rattle.history.specs.Asks.{askVersion, askReplaced, askMarker, lack, used}
-use Rattle.history.proofs.Going.{used-ready}
-use Rattle.history.proofs.Powers.{Marked, marked}
+use Rattle.history_rows.specs.Rows.{askVersion, askReplaced, askMarker, lack, used}
+use Rattle.history_rows.proofs.Going.{used-ready}
+use Rattle.history_rows.proofs.Powers.{Marked, marked}
 use Rattle.history.proofs.Whole.{markers-counted, row-used, one-used, no-versions, some-versions}
 use Rattle.history.proofs.walk_paths.Statement.{statement}
 use Rattle.history.proofs.walk_paths.Tie as tie
