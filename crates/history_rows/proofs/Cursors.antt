@@ -3,7 +3,7 @@ use mathlib.Core.Path.{_≡_, refl, ap}
 use Prim.Native.Nat.{ℕ, _+_}
 use native.Mathlib.Numerals.{add-one}
 use Rattle.paper.specs.Bytes.{Bytes}
-use Rattle.history_rows.specs.declared.leaves.Leaf.{Leaf}
+use Rattle.history_rows.specs.declared.Leaf.{Leaf}
 use Rattle.history_rows.specs.Rows.{onward, itemOn, itemAt, pathOn, leafAt, placeAt, epochFrom}
 
 onward-on : (on : ℕ → ℕ) (start k at : ℕ) → at ≡ onward on start k → on at ≡ onward on start (k + 1)

@@ -15,7 +15,7 @@ use Rattle.proof_form.specs.Form.{ItemStands, commitmentIn}
 use Rattle.shown.specs.declared.Asked.{Asked}
 use Rattle.shown.specs.declared.Walk.{Walk}
 use Rattle.shown.specs.declared.Walk.the-variants.{On, Refused}
-use Rattle.history_rows.specs.declared.leaves.Leaf.{Leaf}
+use Rattle.history_rows.specs.declared.Leaf.{Leaf}
 
 -- the epoch of "this leaf"; the other ends have none
 abbrev pub endEpoch : End → ℕ

@@ -1,15 +1,10 @@
 // The epochs of versions, read again from their paths where they are asked of other leaves.
+use crate::Leaf;
 use path_form::End;
 use path_form::parse;
 ghost use mathlib.Core.Path.{_≡_};
 ghost use Prim.Native.Nat.{_+_};
 ghost use Rattle.history_rows.specs.Rows.{endEpoch, leafAt, epochFrom};
-
-// The epoch of a path's leaf, and the place behind the path.
-pub struct Leaf {
-    pub epoch: u32,
-    pub next: usize,
-}
 
 // The epoch of "this leaf"; the other ends have none.
 fn end_epoch(end: End) -> u32

@@ -7,3 +7,9 @@ pub use rows::absent;
 pub use rows::markers;
 pub use rows::replaced;
 pub use rows::versions;
+
+// The epoch of a path's leaf, and the place behind the path.
+pub struct Leaf {
+    pub epoch: u32,
+    pub next: usize,
+}
