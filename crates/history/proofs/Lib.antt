@@ -1,7 +1,4 @@
 -- Laws of a history check.
-pub mod Going
-pub mod Cursors
-pub mod Powers
 pub mod Whole
 pub mod Standing
 pub mod Tested

@@ -1,5 +1,5 @@
 -- Keys and paths by their places: the k-th of a list that was read stands k times on from the first. Assumes nothing.
-use mathlib.Core.Path.{_≡_, refl, sym, ap, _∙_}
+use mathlib.Core.Path.{_≡_, refl, sym, ap, _∙_, subst}
 use mathlib.Core.List.{List}
 use Prim.Native.Nat.{ℕ, zero, suc, _+_, _-_, _≤_, _<_}
 use native.Mathlib.Omega.{arith}
@@ -21,8 +21,8 @@ use Rattle.path_form.specs.Parsed.{placed, pathOf, pathAt}
 use Rattle.fields.specs.After.{afterOf}
 use Rattle.fields.specs.declared.After.the-variants.{At}
 use Rattle.fields.proofs.Behind.{First, first-of}
-use Rattle.shown.proofs.Keyed.{item-told, item-after}
-use Rattle.history.specs.Asks.{endEpoch, onward, itemOn, pathOn}
+use Rattle.proof_form.proofs.Keyed.{item-told, item-after}
+use Rattle.history_rows.specs.Rows.{endEpoch, onward, itemOn, pathOn}
 
 -- ---- what is read at a place tells the place behind it
 
@@ -59,20 +59,20 @@ module _ {A : Type 0} {a : Layout A} (law : Lawful a) (s : Bytes) (w : Bytewise 
       → First a s (onward on start k) (m - suc k) (drop k xs) r
   first-at k h (p, q) =
       let j : m - k ≡ suc (m - suc k) = omega arith in
-      first-of law s w (onward on start k) (m - suc k) (drop k xs) r p (rw j at q)
+      first-of law s w (onward on start k) (m - suc k) (drop k xs) r p (ap (λ n. times n a .read (drop (onward on start k) s)) (sym j) ∙ q)
 
   standing : (k : ℕ) → k ≤ m → (onward on start k ≤ length s) × (times (m - k) a .read (drop (onward on start k) s) ≡ got (drop k xs) r)
   unfolding onward
-  standing zero h = (l, rw (sub-zero m) e)
+  standing zero h = (l, ap (λ n. times n a .read (drop start s)) (sub-zero m) ∙ e)
   standing (suc k) h =
       let f = first-at k (omega arith) (standing k (omega arith)) in
       let n : on (onward on start k) ≡ f .next = moves (onward on start k) (f .next) (f .value) (f .room) (f .reads) in
       let d : drop (suc k) xs ≡ f .others = ap (λ i. drop i xs) (sym (add-one k)) ∙ sym (drop-drop 1 k xs) ∙ ap (drop 1) (sym (f .is)) in
-      (rw n (f .room), rw (n, d) (f .rest))
+      (subst (λ n. n ≤ length s) (sym n) (f .room), ap (λ n. times (m - suc k) a .read (drop n s)) n ∙ f .rest ∙ ap (λ l. got l r) (sym d))
 
   -- the k-th, and some place behind it
   pub nth : (k : ℕ) (d : A) → k < m → (next : ℕ) × (a .read (drop (onward on start k) s) ≡ got (getD xs k d) (drop next s))
   nth k d h =
       let f = first-at k h (standing k (omega arith)) in
       let g : getD xs k d ≡ f .value = ap (λ i. getD xs i d) (sym (add-zero k)) ∙ sym (getD-drop k xs 0 d) ∙ ap (λ l. getD l 0 d) (sym (f .is)) in
-      (f .next, rw g (f .reads))
+      (f .next, f .reads ∙ ap (λ x. got x (drop (f .next) s)) (sym g))

@@ -1,26 +1,23 @@
 // The history check: a name's versions, all of them, against a head that the handset has. The proof is lent and read in place:
 // what an earlier path says is read from it again, so that a history of 1,023 versions takes no more memory than a lookup.
-mod leaves;
-mod rows;
-
 use fields::After;
+use history_rows::absent;
+use history_rows::markers;
+use history_rows::replaced;
+use history_rows::versions;
 use names::is_name;
 use paper::HistoryAnswer;
 use plan::Place;
 use plan::history_paths;
-use rows::absent;
-use rows::markers;
-use rows::replaced;
-use rows::versions;
+use proof_form::Front;
+use proof_form::first_path;
+use proof_form::head_hashes;
+use proof_form::read_front;
 use shown::FORM;
-use shown::Front;
 use shown::HEAD;
 use shown::INPUT;
 use shown::Walk;
-use shown::first_path;
-use shown::head_hashes;
 use shown::missing;
-use shown::read_front;
 use shown::take_path;
 ghost use mathlib.Core.Path.{_≡_};
 ghost use Prim.Native.Nat.{_+_};

@@ -7,7 +7,7 @@ use Rattle.paper.specs.Bytes.{Bytes, zeros}
 use Rattle.paper.specs.Bits.{log2}
 use Rattle.paper.specs.declared.LookupAnswer.{LookupAnswer}
 use Rattle.paper.specs.declared.LookupAnswer.the-variants as L
-use Rattle.shown.specs.Form.{ItemStands, commitmentIn}
+use Rattle.proof_form.specs.Form.{ItemStands, commitmentIn}
 use Rattle.shown.specs.Walk.{walked, epochIn}
 use Rattle.plan.specs.declared.Place.the-variants.{InAll, InOld, AsMarker}
 use Rattle.shown.specs.declared.Asked.{Asked}

@@ -1,8 +1,8 @@
 // The paths of a lookup, in their order.
 use bits::marker_of;
 use plan::Place;
+use proof_form::commitment_at;
 use shown::Walk;
-use shown::commitment_at;
 use shown::epoch_of;
 use shown::missing;
 use shown::present;

@@ -1,19 +1,9 @@
--- What the functions on words and bytes share. Assumes nothing.
-use mathlib.Core.Path.{_≡_}
-use Prim.Native.Nat.{ℕ, _+_, _%_, _^_}
+-- What the functions on bytes share. Assumes nothing.
+use Prim.Native.Nat.{ℕ, _%_}
 use native.Mathlib.Omega.{arith}
-use lib.Bits.{bitXor}
 use mir.Syntax.{w8}
 use mir.Val.{Fits}
 
 -- a remainder by 256 is a byte
 pub low : (x : ℕ) → Fits w8 (x % 256)
 low x = record { fits = omega arith }
-
--- the sums modulo 2 of equal terms
-pub xors : {a b c x y z : ℕ} → a ≡ x → b ≡ y → c ≡ z → bitXor (bitXor a b) c ≡ bitXor (bitXor x y) z
-xors p q r = cc
-
--- the sums modulo 2 ^ 32 of equal terms
-pub sum : {a b x y r : ℕ} → a ≡ x → b ≡ y → r ≡ (a + b) % 2 ^ 32 → r ≡ (x + y) % 2 ^ 32
-sum p q e = cc

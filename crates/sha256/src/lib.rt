@@ -1,11 +1,10 @@
 // SHA-256 as FIPS 180-4 defines it, of a lent slice of bytes: the whole blocks of the message, then
 // the one or two blocks in which its padding ends, made in a local array.
-mod block;
-mod words;
+mod blocks;
 
-use block::blocks;
+use block::constants;
+use blocks::blocks;
 use fips::State;
-use words::constants;
 ghost use mathlib.Core.Path.{_≡_};
 ghost use Prim.Native.Nat.{_+_, _-_, _*_, _/_, _%_, _^_, _<_, _≤_};
 ghost use lib.ListN.{length};

@@ -1,5 +1,2 @@
--- Laws of what lookup and history checks share.
-pub mod Keyed
-pub mod Fronts
-pub mod Formed
+-- Laws of a walk over paths.
 pub mod Walked

@@ -26,7 +26,7 @@ use Rattle.path_form.specs.Parsed.{commitmentOf}
 use Rattle.path.specs.Taken.{absentBy, shownAt, takenOf, taken}
 use Rattle.path.specs.declared.Taken.{Taken}
 use Rattle.plan.specs.Asked.{placeOf}
-use Rattle.shown.specs.Form.{headIn}
+use Rattle.proof_form.specs.Form.{headIn}
 use Rattle.shown.specs.Walk.{askedOf, termsOf, labelOf, onTerms, metBy, leafEpoch, steppedOf, stepped, walked, walks, Ready}
 use Rattle.shown.specs.declared.Asked.{Asked}
 use Rattle.shown.specs.declared.Walk.{Walk}

@@ -20,7 +20,7 @@ use Rattle.plan.specs.declared.Place.{Place}
 use Rattle.shown.specs.declared.Asked.{Asked}
 use Rattle.shown.specs.declared.Walk.{Walk}
 use Rattle.shown.specs.declared.Walk.the-variants.{On, Refused}
-use Rattle.shown.specs.Form.{headIn}
+use Rattle.proof_form.specs.Form.{headIn}
 
 -- what is asked of a place, and the terms, as document 01's definitions have them
 abbrev pub askedOf : Asked → S.Asked

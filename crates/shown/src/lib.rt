@@ -1,16 +1,7 @@
-// What a lookup check and a history check share. Each is lent a head, a name and the bytes of a proof. The layout of the whole
-// proof is tested before anything is hashed; then the paths are taken in order, each from the place behind the one before.
-// A proof is never copied: what is known of it are places in it and numbers.
-mod items;
-mod layout;
-mod opened;
+// What the paths of a lookup or history proof show: each is taken for what is asked of its place, in order, from the place behind
+// the one before. The proof is in layout already (`proof_form`).
 mod walks;
 
-pub use items::commitment_at;
-pub use items::item_after;
-pub use layout::first_path;
-pub use layout::read_front;
-pub use opened::head_hashes;
 use plan::Place;
 pub use walks::epoch_of;
 pub use walks::missing;
@@ -27,12 +18,6 @@ pub const HEAD: u8 = 3;
 pub const ROOT: u8 = 4;
 
 pub const RULE: u8 = 5;
-
-// What the 108 bytes of header, head and number say, where they are in layout: the number, and the head's epoch.
-pub enum Front {
-    Read { number: u16, epoch: u32 },
-    Bad,
-}
 
 // What a path is asked to show of a place: that its label is not there; or that it is, with a commitment, at an epoch from
 // `low` to `high`.

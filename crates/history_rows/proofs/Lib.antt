@@ -1,0 +1,4 @@
+-- Laws of the rows of a history.
+pub mod Going
+pub mod Cursors
+pub mod Powers

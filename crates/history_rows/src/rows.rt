@@ -1,0 +1,85 @@
+// The rows of a history's paths, each taken in order from where the walk is.
+use crate::leaves::epoch_behind;
+use crate::leaves::leaf_at;
+use plan::Place;
+use proof_form::commitment_at;
+use shown::Walk;
+use shown::missing;
+use shown::present;
+use shown::take_path;
+ghost use mathlib.Core.Path.{_≡_};
+ghost use Prim.Native.Nat.{_+_, _-_, _≤_};
+ghost use Rattle.shown.specs.Walk.{walks};
+ghost use Rattle.history_rows.specs.Rows.{askVersion, askReplaced, askMarker, row, placeBy, lacks, Ahead, VersionsAhead};
+
+// "Versions 1 to n present in *all*.": each with its key's commitment, later than the one before, and at an epoch up to the head's.
+pub fn versions(s: &[u8], name: &[u8], first: usize, n: u16, epoch: u32, walk: Walk) -> Walk
+    requires { ⌜ VersionsAhead (now s) (now name) n walk ⌝ }
+    ensures { λ r. ⌜ r ≡ walks (now (s .entry)) (now (name .entry)) (row (askVersion (now (s .entry)) first epoch) 1 (n + 1)) walk ⌝ }
+{
+    let mut taken = walk;
+    let mut item = 108;
+    let mut at = first;
+    let mut low = 1u64;
+    for i in 1..n + 1 {
+        let asked = present(Place::InAll(i), commitment_at(s, item), low, epoch as u64);
+        taken = take_path(s, name, taken, asked);
+        item += 33 + s[item] as usize;
+        let leaf = leaf_at(s, at);
+        at = leaf.next;
+        low = leaf.epoch as u64 + 1;
+    }
+    taken
+}
+
+// "Versions 1 to n-1 present in *old*.": each with the epoch of the version after it.
+pub fn replaced(s: &[u8], name: &[u8], first: usize, n: u16, walk: Walk) -> Walk
+    requires { ⌜ Ahead (now s) (now name) n walk ⌝ }
+    ensures { λ r. ⌜ r ≡ walks (now (s .entry)) (now (name .entry)) (row (askReplaced (now (s .entry)) first) 1 n) walk ⌝ }
+{
+    let mut taken = walk;
+    let one = leaf_at(s, first);
+    let mut at = one.next;
+    for i in 1..n {
+        let leaf = leaf_at(s, at);
+        let e = leaf.epoch as u64;
+        taken = take_path(s, name, taken, present(Place::InOld(i), [0u8; 32], e, e));
+        at = leaf.next;
+    }
+    taken
+}
+
+// A version's place in *all*, or a marker's.
+fn place(marker: bool, i: u16) -> Place
+    ensures { λ r. ⌜ r ≡ placeBy marker i ⌝ }
+{
+    if marker {
+        return Place::AsMarker(i);
+    }
+    Place::InAll(i)
+}
+
+// Versions, or markers, from `low` up to `high` absent from *all*.
+pub fn absent(s: &[u8], name: &[u8], marker: bool, low: u16, high: u16, walk: Walk) -> Walk
+    requires { ⌜ Ahead (now s) (now name) (high - low) walk ⌝ }
+    ensures { λ r. ⌜ r ≡ walks (now (s .entry)) (now (name .entry)) (lacks marker low high) walk ⌝ }
+{
+    let mut taken = walk;
+    for i in low..high {
+        taken = take_path(s, name, taken, missing(place(marker, i)));
+    }
+    taken
+}
+
+// Markers from 0 up to `marks` present, each with the epoch of version 2^j.
+pub fn markers(s: &[u8], name: &[u8], first: usize, marks: u16, walk: Walk) -> Walk
+    requires { ⌜ Ahead (now s) (now name) marks walk × (marks ≤ 10) ⌝ }
+    ensures { λ r. ⌜ r ≡ walks (now (s .entry)) (now (name .entry)) (row (askMarker (now (s .entry)) first) 0 marks) walk ⌝ }
+{
+    let mut taken = walk;
+    for j in 0..marks {
+        let e = epoch_behind(s, first, (1usize << j) - 1) as u64;
+        taken = take_path(s, name, taken, present(Place::AsMarker(j), [0u8; 32], e, e));
+    }
+    taken
+}
