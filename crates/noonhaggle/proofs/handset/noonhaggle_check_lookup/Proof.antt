@@ -4,7 +4,7 @@ use mathlib.Core.Path.{sym, ap, _∙_}
 use native.Mathlib.Omega.{arith}
 use Rattle.ranges.proofs.Slices.{bytewise}
 use Rattle.words.proofs.Number.{number-one}
-use Rattle.proof_form.specs.Form.{ItemStands}
+use Rattle.shown.specs.Form.{ItemStands}
 use Rattle.lookup.proofs.Checked.{key-found}
 use Rattle.noonhaggle.specs.Results.{lookupResult}
 use Rattle.noonhaggle.proofs.handset.noonhaggle_check_lookup.Statement.{statement}
