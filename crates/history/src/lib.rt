@@ -1,5 +1,5 @@
-// The history check: a name's versions, all of them, against a head that the handset has. The proof is lent and read in place:
-// what an earlier path says is read from it again, so that a history of 1,023 versions takes no more memory than a lookup.
+// The history check: a name's versions, all of them, against a head that the handset has. The proof is lent and read in place, and
+// its paths are taken row by row (`history_rows`).
 use fields::After;
 use history_rows::absent;
 use history_rows::markers;

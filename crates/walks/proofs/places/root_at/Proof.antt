@@ -1,4 +1,4 @@
--- `shown::opened::root_at`: each place is in the tree whose root is read.
+-- `walks::places::root_at`: each place is in the tree whose root is read.
 use borrow.Author.Needs.{needs}
 use Rattle.walks.proofs.places.root_at.Statement.{statement}
 use Rattle.walks.proofs.places.root_at.Tie as tie
