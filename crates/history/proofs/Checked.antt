@@ -15,12 +15,12 @@ use Rattle.paper.specs.Verdict.{verdict}
 use Rattle.paper.specs.Shows.{proofTests, inputTests}
 use Rattle.paper.specs.History.{historyAsked, historyField, historyTerms, historyStrings, historyRead, checkHistory}
 use Rattle.paper.specs.declared.HistoryAnswer.the-variants as H
-use Rattle.proof_form.specs.Form.{frontAt, headIn, firstPath}
-use Rattle.shown.specs.Walk.{walks}
+use Rattle.shown.specs.Form.{frontAt, headIn, firstPath}
+use Rattle.walks.specs.Walk.{walks}
 use Rattle.fields.specs.declared.After.the-variants.{Nowhere}
-use Rattle.proof_form.specs.declared.Front.the-variants as F
-use Rattle.shown.specs.declared.Walk.the-variants.{On}
-use Rattle.proof_form.proofs.Formed.{front-refused, body-refused, Formed}
+use Rattle.shown.specs.declared.Front.the-variants as F
+use Rattle.walks.specs.declared.Walk.the-variants.{On}
+use Rattle.shown.proofs.Formed.{front-refused, body-refused, Formed}
 use Rattle.history.specs.Asks.{asks, answerOf}
 use Rattle.history.proofs.Tested.{read, tested}
 

@@ -21,7 +21,7 @@ use Rattle.path_form.specs.Parsed.{placed, pathOf, pathAt}
 use Rattle.fields.specs.After.{afterOf}
 use Rattle.fields.specs.declared.After.the-variants.{At}
 use Rattle.fields.proofs.Behind.{First, first-of}
-use Rattle.proof_form.proofs.Keyed.{item-told, item-after}
+use Rattle.shown.proofs.Keyed.{item-told, item-after}
 use Rattle.history_rows.specs.Rows.{endEpoch, onward, itemOn, pathOn}
 
 -- ---- what is read at a place tells the place behind it

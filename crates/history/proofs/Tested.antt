@@ -30,18 +30,19 @@ use Rattle.paper.proofs.Proofs.{history-lawful, item-lawful, path-lawful}
 use Rattle.paper.proofs.Fits.{proof-fits}
 use Rattle.plan.specs.Asked.{markersOf}
 use Rattle.plan.proofs.Rows.{asked-length}
-use Rattle.proof_form.specs.Form.{frontAt, headIn, itemIn, ItemStands, commitmentIn}
-use Rattle.shown.specs.Walk.{askedOf, walks}
-use Rattle.proof_form.specs.declared.Front.the-variants as F
+use Rattle.shown.specs.Form.{frontAt, headIn, itemIn, ItemStands, commitmentIn}
+use Rattle.shown.specs.Terms.{askedOf}
+use Rattle.walks.specs.Walk.{walks}
+use Rattle.shown.specs.declared.Front.the-variants as F
 use Rattle.shown.specs.declared.Asked.{Asked}
 use Rattle.plan.specs.declared.Place.{Place}
 use Rattle.plan.specs.declared.Place.the-variants.{InAll, InOld, AsMarker}
-use Rattle.shown.specs.declared.Walk.{Walk}
-use Rattle.shown.specs.declared.Walk.the-variants.{On, Refused}
-use Rattle.proof_form.proofs.Keyed.{item-told}
-use Rattle.proof_form.proofs.Fronts.{front-told}
-use Rattle.proof_form.proofs.Formed.{Formed}
-use Rattle.shown.proofs.Walked.{Suits, over, walks-tests}
+use Rattle.walks.specs.declared.Walk.{Walk}
+use Rattle.walks.specs.declared.Walk.the-variants.{On, Refused}
+use Rattle.shown.proofs.Keyed.{item-told}
+use Rattle.shown.proofs.Fronts.{front-told}
+use Rattle.shown.proofs.Formed.{Formed}
+use Rattle.walks.proofs.Walked.{Suits, over, walks-tests}
 use Rattle.history_rows.specs.Rows.{itemOn, itemAt, pathOn, placeAt, epochFrom, askVersion, askReplaced, askMarker, lack, row, lacks, ItemsStand}
 use Rattle.history.specs.Asks.{asks, answerOf}
 use Rattle.history_rows.proofs.Powers.{marked}

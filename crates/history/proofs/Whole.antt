@@ -13,11 +13,11 @@ use Rattle.paper.specs.Bits.{log2}
 use Rattle.paper.specs.History.{historyAsked, markersBy}
 use Rattle.paper.proofs.Asked.{by-most}
 use Rattle.plan.proofs.Rows.{asked-length}
-use Rattle.shown.specs.Walk.{walked, walks}
+use Rattle.walks.specs.Walk.{walked, walks}
 use Rattle.plan.specs.declared.Place.the-variants.{InOld}
 use Rattle.shown.specs.declared.Asked.{Asked}
-use Rattle.shown.specs.declared.Walk.{Walk}
-use Rattle.shown.proofs.Walked.{walks-append}
+use Rattle.walks.specs.declared.Walk.{Walk}
+use Rattle.walks.proofs.Walked.{walks-append}
 use Rattle.history_rows.specs.Rows.{askVersion, askReplaced, askMarker, lack, row, lacks, used}
 use Rattle.history.specs.Asks.{asks}
 use Rattle.history_rows.proofs.Going.{row-length, used-walked, used-walks}

@@ -11,8 +11,8 @@ use Rattle.paper.specs.declared.HistoryAnswer.{HistoryAnswer}
 use Rattle.paper.specs.declared.HistoryAnswer.the-variants as H
 use Rattle.plan.specs.declared.Place.the-variants.{InOld}
 use Rattle.shown.specs.declared.Asked.{Asked}
-use Rattle.shown.specs.declared.Walk.{Walk}
-use Rattle.shown.specs.declared.Walk.the-variants.{On, Refused}
+use Rattle.walks.specs.declared.Walk.{Walk}
+use Rattle.walks.specs.declared.Walk.the-variants.{On, Refused}
 use Rattle.history_rows.specs.Rows.{askVersion, askReplaced, askMarker, lack, row, lacks, ItemsStand}
 
 -- all paths of a history of n versions at epoch T, of which the first stands at `first`

@@ -1,5 +1,5 @@
-// The history check: a name's versions, all of them, against a head that the handset has. The proof is lent and read in place:
-// what an earlier path says is read from it again, so that a history of 1,023 versions takes no more memory than a lookup.
+// The history check: a name's versions, all of them, against a head that the handset has. The proof is lent and read in place, and
+// its paths are taken row by row (`history_rows`).
 use fields::After;
 use history_rows::absent;
 use history_rows::markers;
@@ -9,21 +9,21 @@ use names::is_name;
 use paper::HistoryAnswer;
 use plan::Place;
 use plan::history_paths;
-use proof_form::Front;
-use proof_form::first_path;
-use proof_form::head_hashes;
-use proof_form::read_front;
 use shown::FORM;
+use shown::Front;
 use shown::HEAD;
 use shown::INPUT;
-use shown::Walk;
+use shown::first_path;
+use shown::head_hashes;
 use shown::missing;
-use shown::take_path;
+use shown::read_front;
+use walks::Walk;
+use walks::take_path;
 ghost use mathlib.Core.Path.{_≡_};
 ghost use Prim.Native.Nat.{_+_};
 ghost use Rattle.paper.specs.Labelling.{plain};
 ghost use Rattle.paper.specs.History.{checkHistory};
-ghost use Rattle.shown.specs.Walk.{walks};
+ghost use Rattle.walks.specs.Walk.{walks};
 ghost use Rattle.history.specs.Asks.{asks, answerOf, Laid};
 
 // All paths in their order, of which the first stands at `first`. The head and each key were counted before. By an epoch there can

@@ -9,11 +9,11 @@ use Rattle.paper.specs.Lists.{upFrom}
 use Rattle.paper.specs.Numbers.{nameMost}
 use Rattle.paper.specs.Bytes.{Bytes, Bytewise}
 use Rattle.paper.proofs.Lists.{upFrom-length}
-use Rattle.shown.specs.Walk.{walked, walks, Ready}
+use Rattle.walks.specs.Walk.{walked, walks, Ready}
 use Rattle.shown.specs.declared.Asked.{Asked}
-use Rattle.shown.specs.declared.Walk.{Walk}
-use Rattle.shown.specs.declared.Walk.the-variants.{On, Refused}
-use Rattle.shown.proofs.Walked.{Counted, walked-counted, counted-ready}
+use Rattle.walks.specs.declared.Walk.{Walk}
+use Rattle.walks.specs.declared.Walk.the-variants.{On, Refused}
+use Rattle.walks.proofs.Walked.{Counted, walked-counted, counted-ready}
 use Rattle.history_rows.specs.Rows.{row, used}
 
 counted : (v : Walk) → Counted (used v) v

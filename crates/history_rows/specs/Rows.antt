@@ -11,10 +11,10 @@ use Rattle.path_form.specs.declared.End.{End}
 use Rattle.path_form.specs.declared.End.the-variants.{This, Other, Off, Nothing}
 use Rattle.plan.specs.declared.Place.{Place}
 use Rattle.plan.specs.declared.Place.the-variants.{InAll, InOld, AsMarker}
-use Rattle.proof_form.specs.Form.{ItemStands, commitmentIn}
+use Rattle.shown.specs.Form.{ItemStands, commitmentIn}
 use Rattle.shown.specs.declared.Asked.{Asked}
-use Rattle.shown.specs.declared.Walk.{Walk}
-use Rattle.shown.specs.declared.Walk.the-variants.{On, Refused}
+use Rattle.walks.specs.declared.Walk.{Walk}
+use Rattle.walks.specs.declared.Walk.the-variants.{On, Refused}
 use Rattle.history_rows.specs.declared.Leaf.{Leaf}
 
 -- the epoch of "this leaf"; the other ends have none

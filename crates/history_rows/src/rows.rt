@@ -2,14 +2,14 @@
 use crate::leaves::epoch_behind;
 use crate::leaves::leaf_at;
 use plan::Place;
-use proof_form::commitment_at;
-use shown::Walk;
+use shown::commitment_at;
 use shown::missing;
 use shown::present;
-use shown::take_path;
+use walks::Walk;
+use walks::take_path;
 ghost use mathlib.Core.Path.{_≡_};
 ghost use Prim.Native.Nat.{_+_, _-_, _≤_};
-ghost use Rattle.shown.specs.Walk.{walks};
+ghost use Rattle.walks.specs.Walk.{walks};
 ghost use Rattle.history_rows.specs.Rows.{askVersion, askReplaced, askMarker, row, placeBy, lacks, Ahead, VersionsAhead};
 
 // "Versions 1 to n present in *all*.": each with its key's commitment, later than the one before, and at an epoch up to the head's.

@@ -23,11 +23,11 @@ use Rattle.paper.specs.Answer.{lookupNumber}
 use Rattle.paper.proofs.Accepted.{lookup-told}
 use Rattle.ranges.proofs.Slices.{part-is}
 use Rattle.words.proofs.Number.{number-one}
-use Rattle.proof_form.specs.Form.{frontAt, headIn, firstPath, ItemStands}
+use Rattle.shown.specs.Form.{frontAt, headIn, firstPath, ItemStands}
 use Rattle.fields.specs.declared.After.the-variants.{Nowhere}
-use Rattle.proof_form.specs.declared.Front.the-variants as F
-use Rattle.proof_form.proofs.Fronts.{front-told}
-use Rattle.proof_form.proofs.Formed.{front-refused, body-refused, Formed, parsed}
+use Rattle.shown.specs.declared.Front.the-variants as F
+use Rattle.shown.proofs.Fronts.{front-told}
+use Rattle.shown.proofs.Formed.{front-refused, body-refused, Formed, parsed}
 use Rattle.lookup.specs.Part.{KeyPart}
 use Rattle.lookup.specs.Walk.{walkOf, answerOf}
 use Rattle.lookup.proofs.Tested.{read, key-stands, tested}

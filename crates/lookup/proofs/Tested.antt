@@ -22,18 +22,19 @@ use Rattle.paper.proofs.Lists.{not-both}
 use Rattle.paper.proofs.Layouts.{bytes-parse}
 use Rattle.paper.proofs.Proofs.{lookup-lawful, item-lawful, path-lawful}
 use Rattle.paper.proofs.Fits.{proof-fits}
-use Rattle.proof_form.specs.Form.{frontAt, headIn, ItemStands, commitmentIn}
-use Rattle.shown.specs.Walk.{askedOf, stepped, walked, walks, epochIn}
-use Rattle.proof_form.specs.declared.Front.the-variants as F
+use Rattle.shown.specs.Form.{frontAt, headIn, ItemStands, commitmentIn}
+use Rattle.shown.specs.Terms.{askedOf}
+use Rattle.walks.specs.Walk.{stepped, walked, walks, epochIn}
+use Rattle.shown.specs.declared.Front.the-variants as F
 use Rattle.plan.specs.declared.Place.the-variants.{AsMarker}
 use Rattle.shown.specs.declared.Asked.{Asked}
-use Rattle.shown.specs.declared.Walk.{Walk}
-use Rattle.shown.specs.declared.Walk.the-variants.{On, Refused}
+use Rattle.walks.specs.declared.Walk.{Walk}
+use Rattle.walks.specs.declared.Walk.the-variants.{On, Refused}
 use Rattle.fields.proofs.Behind.{First, first-of}
-use Rattle.proof_form.proofs.Keyed.{item-told}
-use Rattle.proof_form.proofs.Fronts.{front-told}
-use Rattle.proof_form.proofs.Formed.{Formed}
-use Rattle.shown.proofs.Walked.{Suits, over, step-passed, walks-tests}
+use Rattle.shown.proofs.Keyed.{item-told}
+use Rattle.shown.proofs.Fronts.{front-told}
+use Rattle.shown.proofs.Formed.{Formed}
+use Rattle.walks.proofs.Walked.{Suits, over, step-passed, walks-tests}
 use Rattle.lookup.specs.Walk.{ofVersion, ofOld, ofMarker, ofNone, firstOf, registered, walkOf, answerOf}
 
 -- an answer is made of a walk

@@ -7,12 +7,12 @@ use Rattle.paper.specs.Bytes.{Bytes, zeros}
 use Rattle.paper.specs.Bits.{log2}
 use Rattle.paper.specs.declared.LookupAnswer.{LookupAnswer}
 use Rattle.paper.specs.declared.LookupAnswer.the-variants as L
-use Rattle.proof_form.specs.Form.{ItemStands, commitmentIn}
-use Rattle.shown.specs.Walk.{walked, epochIn}
+use Rattle.shown.specs.Form.{ItemStands, commitmentIn}
+use Rattle.walks.specs.Walk.{walked, epochIn}
 use Rattle.plan.specs.declared.Place.the-variants.{InAll, InOld, AsMarker}
 use Rattle.shown.specs.declared.Asked.{Asked}
-use Rattle.shown.specs.declared.Walk.{Walk}
-use Rattle.shown.specs.declared.Walk.the-variants.{On, Refused}
+use Rattle.walks.specs.declared.Walk.{Walk}
+use Rattle.walks.specs.declared.Walk.the-variants.{On, Refused}
 
 -- what is asked of the paths: the version in *all*, the version in *old*, its marker
 abbrev pub ofVersion : Bytes → ℕ → ℕ → Asked

@@ -8,20 +8,20 @@ pub use key::accepted_key;
 use names::is_name;
 use paper::LookupAnswer;
 use paths::walk_of;
-use proof_form::Front;
-use proof_form::first_path;
-use proof_form::head_hashes;
-use proof_form::read_front;
 use shown::FORM;
+use shown::Front;
 use shown::HEAD;
 use shown::INPUT;
-use shown::Walk;
+use shown::first_path;
+use shown::head_hashes;
+use shown::read_front;
+use walks::Walk;
 ghost use mathlib.Core.Path.{_≡_};
 ghost use Prim.Native.Nat.{_≤_};
 ghost use lib.ListN.{length};
 ghost use Rattle.paper.specs.Labelling.{plain};
 ghost use Rattle.paper.specs.Lookup.{lookupKeys, lookupAsked, checkLookup};
-ghost use Rattle.proof_form.specs.Form.{firstPath};
+ghost use Rattle.shown.specs.Form.{firstPath};
 ghost use Rattle.lookup.specs.Walk.{answerOf};
 
 // Where the paths start, if the layout holds behind the front. "If 0: one path .. Otherwise key length 1, key, opening, then

@@ -1,12 +1,12 @@
 // The paths of a lookup, in their order.
 use bits::marker_of;
 use plan::Place;
-use proof_form::commitment_at;
-use shown::Walk;
-use shown::epoch_of;
+use shown::commitment_at;
 use shown::missing;
 use shown::present;
-use shown::take_path;
+use walks::Walk;
+use walks::epoch_of;
+use walks::take_path;
 ghost use mathlib.Core.Path.{_≡_};
 ghost use Prim.Native.Nat.{_≤_};
 ghost use Rattle.lookup.specs.Walk.{registered, walkOf, WalkReady};

@@ -1,2 +1,4 @@
--- Laws of a walk over paths.
-pub mod Walked
+-- Laws of what lookup and history checks share.
+pub mod Keyed
+pub mod Fronts
+pub mod Formed

@@ -1,2 +1,3 @@
--- What the contracts of a walk over paths say, over document 01's reading of bytes.
-pub mod Walk
+-- What the contracts of the shared parts say, over document 01's reading of bytes.
+pub mod Form
+pub mod Terms

@@ -9,11 +9,11 @@ use Rattle.paper.specs.Bytes.{Bytewise}
 use Rattle.paper.specs.Fields.{isName}
 use Rattle.paper.specs.History.{historyAsked}
 use Rattle.ranges.proofs.Slices.{bytewise}
-use Rattle.proof_form.specs.Form.{frontAt, firstPath}
-use Rattle.proof_form.specs.declared.Front.the-variants as F
+use Rattle.shown.specs.Form.{frontAt, firstPath}
+use Rattle.shown.specs.declared.Front.the-variants as F
 use Rattle.names.proofs.Named.{name-short}
-use Rattle.proof_form.proofs.Fronts.{front-told}
-use Rattle.proof_form.proofs.Formed.{Formed, formed}
+use Rattle.shown.proofs.Fronts.{front-told}
+use Rattle.shown.proofs.Formed.{Formed, formed}
 use Rattle.history.specs.Asks.{answerOf}
 use Rattle.history.proofs.Tested.{keys-stand}
 use Rattle.history.proofs.Checked.{head-unsized, name-refused, no-front, no-body, head-refused, answered}

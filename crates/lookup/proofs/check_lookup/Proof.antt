@@ -9,11 +9,11 @@ use Rattle.paper.specs.Bytes.{Bytewise}
 use Rattle.paper.specs.Fields.{isName}
 use Rattle.paper.specs.Lookup.{lookupAsked, lookupKeys}
 use Rattle.ranges.proofs.Slices.{bytewise}
-use Rattle.proof_form.specs.Form.{frontAt}
-use Rattle.proof_form.specs.declared.Front.the-variants as F
+use Rattle.shown.specs.Form.{frontAt}
+use Rattle.shown.specs.declared.Front.the-variants as F
 use Rattle.names.proofs.Named.{name-short}
-use Rattle.proof_form.proofs.Fronts.{front-told}
-use Rattle.proof_form.proofs.Formed.{Formed, formed}
+use Rattle.shown.proofs.Fronts.{front-told}
+use Rattle.shown.proofs.Formed.{Formed, formed}
 use Rattle.lookup.specs.Walk.{answerOf}
 use Rattle.lookup.proofs.Tested.{key-stands}
 use Rattle.lookup.proofs.Checked.{head-unsized, name-refused, no-front, no-body, head-refused, answered}

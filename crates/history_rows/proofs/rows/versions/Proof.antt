@@ -5,7 +5,7 @@ use native.Mathlib.Omega.{arith}
 use mathlib.Core.Path.{_≡_, refl, sym, ap, _∙_, subst}
 use Prim.Native.Nat.{_+_, _-_, _≤_}
 use Rattle.ranges.proofs.Slices.{bytewise}
-use Rattle.proof_form.specs.Form.{ItemStands}
+use Rattle.shown.specs.Form.{ItemStands}
 use Rattle.history_rows.specs.Rows.{askVersion, itemAt, placeAt, epochFrom}
 use Rattle.history_rows.proofs.Going.{Going, going-starts, going-ready, going-on, going-ends}
 use Rattle.history_rows.proofs.Cursors.{place-none, item-none, epoch-none, item-next, leaf-next, leaf-epoch}

@@ -3,7 +3,7 @@ use borrow.Author.Needs.{needs}
 use native.Mathlib.Omega.{arith}
 use mathlib.Core.Path.{refl, sym, _∙_}
 use Rattle.ranges.proofs.Slices.{bytewise}
-use Rattle.proof_form.specs.Form.{ItemStands}
+use Rattle.shown.specs.Form.{ItemStands}
 use Rattle.lookup.proofs.Checked.{key-found, key-part, no-part}
 use Rattle.lookup.proofs.key.accepted_key.Statement.{statement}
 use Rattle.lookup.proofs.key.accepted_key.Tie as tie

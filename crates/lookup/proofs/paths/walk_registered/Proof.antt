@@ -4,8 +4,8 @@ use native.Mathlib.Omega.{arith}
 use Prim.Native.Nat.{_≤_}
 use Rattle.paper.specs.Bytes.{Bytewise}
 use Rattle.ranges.proofs.Slices.{bytewise}
-use Rattle.shown.proofs.Walked.{Counted, walked-counted, counted-ready}
-use Rattle.shown.specs.declared.Walk.the-variants.{On}
+use Rattle.walks.proofs.Walked.{Counted, walked-counted, counted-ready}
+use Rattle.walks.specs.declared.Walk.the-variants.{On}
 use Rattle.bits.proofs.Powers.{marker-few, marker-shift}
 use Rattle.lookup.proofs.Tested.{registered-is}
 use Rattle.lookup.proofs.paths.walk_registered.Statement.{statement}

@@ -1,0 +1,2 @@
+-- Laws of a walk over paths.
+pub mod Walked
