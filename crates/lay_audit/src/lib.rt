@@ -6,6 +6,7 @@ use forest::Grown;
 use lay::lay;
 use paper::State;
 use paper::WriteAnswer;
+use room::has_room;
 use subtrees::list_length;
 ghost use mathlib.Core.Path.{_≡_};
 ghost use mathlib.Core.Bool.{true};
@@ -29,15 +30,14 @@ pub fn lay_audit(
     requires { ⌜ Step (now heads) epoch × Kept (now all) (now «all_slots») a (now old) (now «old_slots») o ⌝ }
     ensures { λ r. ⌜ record { answer = r; out = now (out .exit) } ≡ weighed state (now (out .entry)) true (bytesWith (now (heads .entry)) epoch (leavesIn (a .leaves) (now (all .entry))) (leavesIn (o .leaves) (now (old .entry)))) ⌝ }
 {
-    let first = list_length(all, a.leaves, epoch);
-    let second = list_length(old, o.leaves, epoch);
-    let size = 214 + (first + second) * 99;
-    if out.len() < size {
+    let first = list_length(all, a.leaves, epoch) * 99;
+    let second = list_length(old, o.leaves, epoch) * 99;
+    if !has_room(out.len(), 214, first, second) {
         return WriteAnswer::Refused { number: 8, state };
     }
     lay(heads, epoch, all, all_slots, a, old, old_slots, o, out);
     WriteAnswer::Written {
-        length: size,
+        length: 214 + first + second,
         state,
     }
 }

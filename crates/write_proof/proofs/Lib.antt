@@ -1,2 +1,3 @@
 -- Laws of writing lookup and history proofs.
+pub mod Bytes
 pub mod Same

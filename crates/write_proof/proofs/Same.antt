@@ -30,7 +30,7 @@ use Rattle.front.specs.Front.{frontBytes, itemBytes}
 use Rattle.front.proofs.Front.{proof-bytes}
 use Rattle.tested.specs.Tested.{weighed, Sound}
 use Rattle.tested.proofs.Weighed.{clash}
-use Rattle.lay_proof.specs.Judged.{kindBy, itemsBy, headIn, bytesWith, judged}
+use Rattle.write_proof.specs.Judged.{kindBy, itemsBy, headIn, bytesWith, judged}
 use Rattle.write_proof.specs.Rest.{clearBy, proofBy, restBy}
 
 -- ---- the same trees, and the same labels in them

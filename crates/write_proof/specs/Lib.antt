@@ -1,2 +1,3 @@
 -- What the contracts of writing lookup and history proofs cite.
+pub mod Judged
 pub mod Rest

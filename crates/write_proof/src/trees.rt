@@ -1,7 +1,7 @@
 // "two leaves of a needed tree share a label": both trees of the epoch, stored, each in its function's own arrays.
+use crate::judge::lay_proof;
 use forest::Grown;
 use forest::grow;
-use lay_proof::lay_proof;
 use paper::State;
 use paper::WriteAnswer;
 ghost use mathlib.Core.Path.{_≡_};

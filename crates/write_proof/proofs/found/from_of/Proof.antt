@@ -1,12 +1,12 @@
--- `lay_proof::found::from_of`: the last record, unless it is a history.
+-- `write_proof::found::from_of`: the last record, unless it is a history.
 use borrow.Author.Needs.{needs}
 use native.Mathlib.Omega.{arith}
 use mathlib.Core.Path.{_≡_, sym, ap}
 use mathlib.Core.Bool.{false}
 use Prim.Native.Nat.{suc, _-_}
-use Rattle.lay_proof.specs.Judged.{fromBy}
-use Rattle.lay_proof.proofs.found.from_of.Statement.{statement}
-use Rattle.lay_proof.proofs.found.from_of.Tie as tie
+use Rattle.write_proof.specs.Judged.{fromBy}
+use Rattle.write_proof.proofs.found.from_of.Statement.{statement}
+use Rattle.write_proof.proofs.found.from_of.Tie as tie
 
 returns : tie.Need-returns
 returns c = search needs

@@ -1,11 +1,11 @@
--- `lay_proof::found::number_of`: the record has the version.
+-- `write_proof::found::number_of`: the record has the version.
 use borrow.Author.Needs.{needs}
 use native.Mathlib.Omega.{arith}
 use mathlib.Core.Path.{_≡_, sym, ap, _∙_}
 use Prim.Native.Nat.{suc, _-_}
-use Rattle.lay_proof.specs.Judged.{versionOf}
-use Rattle.lay_proof.proofs.found.number_of.Statement.{statement}
-use Rattle.lay_proof.proofs.found.number_of.Tie as tie
+use Rattle.write_proof.specs.Judged.{versionOf}
+use Rattle.write_proof.proofs.found.number_of.Statement.{statement}
+use Rattle.write_proof.proofs.found.number_of.Tie as tie
 
 returns : tie.Need-returns
 returns c = search needs

@@ -5,7 +5,7 @@ use record::version_at;
 ghost use mathlib.Core.Path.{_≡_};
 ghost use Prim.Native.Nat.{ℕ, suc, _<_};
 ghost use Rattle.record.specs.Places.{Stands};
-ghost use Rattle.lay_proof.specs.Judged.{versionOf, fromBy, found};
+ghost use Rattle.write_proof.specs.Judged.{versionOf, fromBy, found};
 
 // From which record on keys are written, and the last version.
 pub struct Found {

@@ -1,4 +1,4 @@
--- `lay_proof::lay_proof`: the paths are measured, and the proof is laid if it has room.
+-- `write_proof::judge::lay_proof`: the paths are measured, and the proof is laid if it has room.
 use borrow.Author.Needs.{needs}
 use borrow.Author.Tests.{not-true, not-false, leb-true, leb-false}
 use native.Mathlib.Omega.{arith}
@@ -20,10 +20,10 @@ use Rattle.front.specs.Front.{itemsFrom}
 use Rattle.tested.specs.Tested.{weighed}
 use Rattle.tested.proofs.First.{heads-reach}
 use Rattle.tested.proofs.Weighed.{clash, no-room, written}
-use Rattle.lay_proof.specs.Judged.{overSides, bytesWith, judged}
-use Rattle.lay_proof.proofs.Bytes.{before-size, sides-wide, with-size, laid-all, asked-few, from-within, judged-is}
-use Rattle.lay_proof.proofs.lay_proof.Statement.{statement}
-use Rattle.lay_proof.proofs.lay_proof.Tie as tie
+use Rattle.write_proof.specs.Judged.{overSides, bytesWith, judged}
+use Rattle.write_proof.proofs.Bytes.{before-size, sides-wide, with-size, laid-all, asked-few, from-within, judged-is}
+use Rattle.write_proof.proofs.judge.lay_proof.Statement.{statement}
+use Rattle.write_proof.proofs.judge.lay_proof.Tie as tie
 
 cast-count : tie.Need-cast-count
 cast-count c = search needs

@@ -1,10 +1,10 @@
--- `lay_proof::before::lay_before`: front and keys, one behind the other.
+-- `write_proof::before::lay_before`: front and keys, one behind the other.
 use borrow.Author.Needs.{needs}
 use mathlib.Core.Path.{_∙_}
-use Rattle.lay_proof.specs.Judged.{overSides}
-use Rattle.lay_proof.proofs.Bytes.{before-laid, head-found, sides-wide}
-use Rattle.lay_proof.proofs.before.lay_before.Statement.{statement}
-use Rattle.lay_proof.proofs.before.lay_before.Tie as tie
+use Rattle.write_proof.specs.Judged.{overSides}
+use Rattle.write_proof.proofs.Bytes.{before-laid, head-found, sides-wide}
+use Rattle.write_proof.proofs.before.lay_before.Statement.{statement}
+use Rattle.write_proof.proofs.before.lay_before.Tie as tie
 
 previous-head-requires : tie.Need-previous-head-requires
 previous-head-requires c κs = search needs

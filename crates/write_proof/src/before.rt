@@ -10,7 +10,7 @@ ghost use Prim.Native.Nat.{_+_, _≤_};
 ghost use lib.ListN.{length};
 ghost use Rattle.path_fields.specs.Written.{Wrote};
 ghost use Rattle.front.specs.Front.{itemBytes, itemsFrom};
-ghost use Rattle.lay_proof.specs.Judged.{kindBy, overSides, beforeWith, Source};
+ghost use Rattle.write_proof.specs.Judged.{kindBy, overSides, beforeWith, Source};
 
 // "kind 1 (1 lookup, 2 history, 3 audit)"
 fn kind_of(history: bool) -> u8

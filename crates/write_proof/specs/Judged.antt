@@ -22,7 +22,7 @@ use Rattle.paths.specs.Paths.{askedOf, freeFor, pathBytes}
 use Rattle.paths.specs.declared.Plan.{Plan}
 use Rattle.front.specs.Front.{frontBytes, itemBytes}
 use Rattle.tested.specs.Tested.{weighed}
-use Rattle.lay_proof.specs.declared.found.Found.{Found}
+use Rattle.write_proof.specs.declared.found.Found.{Found}
 
 -- "kind 1 (1 lookup, 2 history, 3 audit)", and the keys
 abbrev pub kindBy : Bool → ℕ

@@ -1,41 +1,23 @@
 // A lookup or history proof out of the two trees of its epoch as they are stored: "or a label to be shown absent is there", and "8 ROOM".
 // Its paths and keys are measured, and it is laid if it has room.
-mod before;
-mod found;
-
-use before::lay_before;
+use crate::before::lay_before;
+use crate::found::find;
 use forest::Grown;
-use found::find;
 use front::items_size;
 use paper::State;
 use paper::WriteAnswer;
 use paths::Plan;
 use paths::measure_paths;
 use paths::write_paths;
+use room::has_room;
 ghost use mathlib.Core.Path.{_≡_};
-ghost use Prim.Native.Nat.{_+_};
-ghost use lib.Dec.{leb};
 ghost use Rattle.paper.specs.Level.{leavesIn};
 ghost use Rattle.paths.specs.Paths.{Trees};
 ghost use Rattle.tested.specs.Tested.{Sound};
-ghost use Rattle.lay_proof.specs.Judged.{judged};
-
-// Whether 108 bytes, keys and paths fit.
-fn has_room(room: usize, keys: usize, paths: usize) -> bool
-    ensures { λ r. ⌜ r ≡ leb (108 + keys + paths) room ⌝ }
-{
-    if room < 108 {
-        return false;
-    }
-    let left = room - 108;
-    if left < keys {
-        return false;
-    }
-    paths <= left - keys
-}
+ghost use Rattle.write_proof.specs.Judged.{judged};
 
 // A proof of the name at the epoch, over the leaves and slots of *all* and of *old*.
-pub fn lay_proof(
+pub(crate) fn lay_proof(
     records: &[u8],
     heads: &[u8],
     state: State,
@@ -66,7 +48,7 @@ pub fn lay_proof(
         return WriteAnswer::Refused { number: 7, state };
     }
     let keys = items_size(records, count, from, name, epoch);
-    if !has_room(out.len(), keys, paths.size) {
+    if !has_room(out.len(), 108, keys, paths.size) {
         return WriteAnswer::Refused { number: 8, state };
     }
     let next = lay_before(records, heads, count, from, name, a, o, plan, out);

@@ -1,10 +1,10 @@
--- `lay_proof::found::find`: both are those of the name's last record.
+-- `write_proof::found::find`: both are those of the name's last record.
 use borrow.Author.Needs.{needs}
 use mathlib.Core.Path.{ap, _∙_}
-use Rattle.lay_proof.specs.Judged.{versionOf, fromBy}
-use Rattle.lay_proof.proofs.Bytes.{last-stands}
-use Rattle.lay_proof.proofs.found.find.Statement.{statement}
-use Rattle.lay_proof.proofs.found.find.Tie as tie
+use Rattle.write_proof.specs.Judged.{versionOf, fromBy}
+use Rattle.write_proof.proofs.Bytes.{last-stands}
+use Rattle.write_proof.proofs.found.find.Statement.{statement}
+use Rattle.write_proof.proofs.found.find.Tie as tie
 
 latest-requires : tie.Need-latest-requires
 latest-requires c κs = search needs

@@ -34,8 +34,8 @@ use Rattle.front.specs.Front.{frontBytes, itemBytes, itemsFrom}
 use Rattle.front.proofs.Front.{front-length, previous-some}
 use Rattle.front.proofs.Items.{items-all, items-none, items-last}
 use Rattle.tested.specs.Tested.{weighed}
-use Rattle.lay_proof.specs.Judged.{kindBy, itemsBy, versionOf, fromBy, found, overSides, headOver, beforeWith, bytesWith, planBy, judged}
-use Rattle.lay_proof.specs.declared.found.Found.{Found}
+use Rattle.write_proof.specs.Judged.{kindBy, itemsBy, versionOf, fromBy, found, overSides, headOver, beforeWith, bytesWith, planBy, judged}
+use Rattle.write_proof.specs.declared.found.Found.{Found}
 
 -- ---- sizes
 

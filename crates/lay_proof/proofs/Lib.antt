@@ -1,2 +1,0 @@
--- Laws of laying a lookup or history proof.
-pub mod Bytes

@@ -1,2 +1,0 @@
--- What the contracts of laying a lookup or history proof cite.
-pub mod Judged
