@@ -4,7 +4,7 @@ use paper::PublishAnswer;
 use paper::State;
 use ranges::put;
 ghost use mathlib.Core.Path.{_≡_};
-ghost use Prim.Native.Nat.{suc, _+_, _*_, _≤_};
+ghost use Prim.Native.Nat.{suc, _+_, _*_, _≤_, _<_};
 ghost use lib.ListN.{length};
 ghost use Rattle.paper.specs.Bytes.{pasted};
 ghost use Rattle.paper.specs.Labelling.{plain};
@@ -24,6 +24,17 @@ fn append(records: &mut [u8], heads: &mut [u8], state: State, fresh: &[u8], head
     put(heads, (state.epoch as usize + 1) * 32, head);
 }
 
+// The state with n more records, at the next epoch.
+fn advanced(state: State, n: usize) -> State
+    requires { ⌜ (n ≤ 256) × (state .count + n ≤ 4096) × (suc (state .epoch) < 65536) ⌝ }
+    ensures { λ r. ⌜ r ≡ record { count = state .count + n; epoch = suc (state .epoch) } ⌝ }
+{
+    State {
+        count: state.count + n as u32,
+        epoch: state.epoch + 1,
+    }
+}
+
 pub fn publish(records: &mut [u8], heads: &mut [u8], state: State, batch: &[u8]) -> PublishAnswer
     ensures { λ r. ⌜ record { answer = r; records = now (records .exit); heads = now (heads .exit) } ≡ P.publish plain (now (records .entry)) (now (heads .entry)) state (now (batch .entry)) ⌝ }
 {
@@ -39,8 +50,5 @@ pub fn publish(records: &mut [u8], heads: &mut [u8], state: State, batch: &[u8])
     let size = n * 168;
     let head = weighed.head;
     append(records, heads, state, &fresh[..size], &head);
-    PublishAnswer::Published(State {
-        count: state.count + n as u32,
-        epoch: state.epoch + 1,
-    })
+    PublishAnswer::Published(advanced(state, n))
 }
