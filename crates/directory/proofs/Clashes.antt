@@ -39,7 +39,7 @@ pub record Telling (lab : Labelling) : Type 0 where
       → All (λ s. s ∈ U) (lab .strings k n a) → All (λ s. s ∈ U) (lab .strings l m b) → bitsOf (lab .label k n a) ≡ bitsOf (lab .label l m b)
       → (k ≡ l) × (n ≡ m) × (a ≡ b)
 
-other-kind : {A : Type 0} → kindByte version ≡ kindByte marker → A
+pub other-kind : {A : Type 0} → kindByte version ≡ kindByte marker → A
 other-kind e = absurd (omega (arith, e))
 
 kind-inj : (k l : Kind) → kindByte k ≡ kindByte l → k ≡ l
@@ -63,7 +63,7 @@ no-log : log2 zero ≤ 9
 unfolding log2 topPower
 no-log = omega arith
 
-small-log : (v : ℕ) → v ≤ versionMost → log2 v ≤ 9
+pub small-log : (v : ℕ) → v ≤ versionMost → log2 v ≤ 9
 small-log zero h = no-log
 small-log (suc v) h = pow-below (log2 (suc v)) 9 (suc v) (log2-spec (suc v) (omega arith) (omega arith) .0) (omega arith)
 

@@ -2,6 +2,8 @@
 pub mod Standing
 pub mod Writers
 pub mod Clashes
+pub mod Apart
+pub mod PublishClashes
 pub mod Lookups
 pub mod Histories
 pub mod Audits

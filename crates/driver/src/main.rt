@@ -14,7 +14,8 @@ fn answer(call: u8, r: Request, space: &mut [u8], spare: &mut [u8])
 {
     match call {
         1 | 2 | 3 | 4 | 5 | 6 | 7 => handset_calls::answer(call, r, space),
-        8 | 9 | 10 | 11 => server_calls::answer(call, r, space, spare),
+        8 | 9 => tree_calls::answer(call, r, space),
+        10 | 11 => server_calls::answer(call, r, space, spare),
         14 => writer_calls::answer_audit(r, space, spare),
         _ => reply::print_bad(r),
     }

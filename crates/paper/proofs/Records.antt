@@ -103,7 +103,7 @@ module _ (lab : Labelling) (name : Bytes) where
       let e : own (earlier ++ (r ∷ [])) ≡ own earlier = own-snoc earlier r ∙ ap (λ b. own earlier ++ cond b (r ∷ []) []) q ∙ append-nil (own earlier) in
       subst (λ l. Runs (length l) (lastEpoch l) rs) e h
 
-  own-cons : (r : Record) (rs : List Record) → own (r ∷ rs) ≡ cond (sameName lab (r .name) name) (r ∷ own rs) (own rs)
+  pub own-cons : (r : Record) (rs : List Record) → own (r ∷ rs) ≡ cond (sameName lab (r .name) name) (r ∷ own rs) (own rs)
   unfolding ownRecords keep
   own-cons r rs = refl
 
@@ -164,6 +164,10 @@ runs-at k e (x ∷ l) d h r (suc i) n =
 pub runs-most : (k e : ℕ) (l : List Record) → Runs k e l → All (λ r. r .version ≤ k + length l) l
 runs-most k e [] r = tt
 runs-most k e (x ∷ l) r = (omega (arith, r .0), in-all _ l (λ q m. omega (arith, all-in _ l (runs-most (suc k) (x .epoch) l (r .2)) q m)))
+
+pub runs-above : (k e : ℕ) (l : List Record) → Runs k e l → All (λ r. k < r .version) l
+runs-above k e [] r = tt
+runs-above k e (x ∷ l) r = (omega (arith, r .0), in-all _ l (λ q m. omega (arith, all-in _ l (runs-above (suc k) (x .epoch) l (r .2)) q m)))
 
 pub runs-rise : (k e : ℕ) (l : List Record) (d : Record) → Runs k e l → (i : ℕ) → suc i < length l → getD l i d .epoch < getD l (suc i) d .epoch
 runs-rise k e [] d r i n = absurd (omega arith)

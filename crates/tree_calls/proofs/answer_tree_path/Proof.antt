@@ -1,11 +1,11 @@
--- `server_calls::answer_tree_path`: what is written of the path lies in its room.
+-- `tree_calls::answer_tree_path`: what is written of the path lies in its room.
 use borrow.Author.Needs.{needs}
 use mathlib.Core.Path.{sym}
 use native.Mathlib.Omega.{arith}
 use lib.Seq.{length-take-le}
-use Rattle.server_calls.proofs.Room.{path-within}
-use Rattle.server_calls.proofs.answer_tree_path.Statement.{statement}
-use Rattle.server_calls.proofs.answer_tree_path.Tie as tie
+use Rattle.tree_calls.proofs.Room.{path-within}
+use Rattle.tree_calls.proofs.answer_tree_path.Statement.{statement}
+use Rattle.tree_calls.proofs.answer_tree_path.Tie as tie
 
 within : tie.Need-array-share-prefix-path
 within c =
