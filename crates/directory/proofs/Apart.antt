@@ -17,14 +17,14 @@ use Rattle.paper.specs.Labelling.{Labelling, sameName}
 use Rattle.paper.specs.Tree.{key}
 use Rattle.paper.specs.Table.{Record, byEpoch, ownRecords, inShape, leafOf, allLeaves, oldLeaves, allAt, oldAt, distinct}
 use Rattle.paper.specs.Arrow.{Collision}
-use Rattle.paper.proofs.Lists.{all-in, in-all, all-left, all-right, all-append, in-keep, keep-in, and-both}
+use Rattle.paper.proofs.Lists.{all-in, in-all, all-left, all-right, all-append, and-both}
 use Rattle.paper.proofs.Bytes.{eq-same}
 use Rattle.paper.proofs.Honest.{not-held}
 use Rattle.paper.proofs.Records.{Runs, own-cons, versions-run, runs-above}
 use Rattle.paper.proofs.Leaves.{in-flat, all-flat}
 use Rattle.paper.proofs.Collide.{OneToOne, collide-or-not}
 use Rattle.directory.specs.Clash.{recordStrings, treeStrings}
-use Rattle.directory.proofs.Clashes.{Telling, other-kind, small-log}
+use Rattle.directory.proofs.Clashes.{Telling, by-in, in-own, other-kind, small-log}
 
 -- ---- leaves that differ in their labels, pair by pair
 
@@ -49,10 +49,6 @@ inAll marker n = 2 ^ n
 abbrev inOld : Kind → ℕ → ℕ
 inOld k n = suc n
 
-by-in : (t : ℕ) (rs : List Record) (r : Record) → r ∈ byEpoch t rs → r ∈ rs
-unfolding byEpoch
-by-in t rs r m = keep-in _ rs r m
-
 module _ (lab : Labelling) where
   -- ---- no two records of a table in shape have one name and one version
 
@@ -67,10 +63,6 @@ module _ (lab : Labelling) where
   own-first : (r : Record) (rs : List Record) → ownRecords lab (r .name) (r ∷ rs) ≡ r ∷ ownRecords lab (r .name) rs
   unfolding sameName
   own-first r rs = own-cons lab (r .name) r rs ∙ ap (λ b. cond b (r ∷ ownRecords lab (r .name) rs) (ownRecords lab (r .name) rs)) (eq-same {s = lab .person (r .name)} refl)
-
-  own-in : (name : Bytes) (rs : List Record) (q : Record) → q ∈ rs → lab .person (q .name) ≡ lab .person name → q ∈ ownRecords lab name rs
-  unfolding ownRecords sameName
-  own-in name rs q m e = in-keep _ rs q m (eq-same e)
 
   running-on : (r : Record) (rs : List Record) → Running (r ∷ rs) → Running rs
   running-on r rs h name = let (k, e, runs) = h name in by k e (sameName lab (r .name) name) (subst (λ l. Runs k e l) (own-cons lab name r rs) runs)
@@ -87,7 +79,7 @@ module _ (lab : Labelling) where
       later q m p v =
           let (k, e, runs) = h (r .name) in
           let own : Runs k e (r ∷ ownRecords lab (r .name) rs) = subst (λ l. Runs k e l) (own-first r rs) runs in
-          omega (arith, v, own .0, all-in (λ q. suc k < q .version) (ownRecords lab (r .name) rs) (runs-above (suc k) (r .epoch) (ownRecords lab (r .name) rs) (own .2)) q (own-in (r .name) rs q m p))
+          omega (arith, v, own .0, all-in (λ q. suc k < q .version) (ownRecords lab (r .name) rs) (runs-above (suc k) (r .epoch) (ownRecords lab (r .name) rs) (own .2)) q (in-own lab (r .name) rs q m p))
 
   -- ---- their leaves, where a label tells kind, number and name
 

@@ -57,6 +57,16 @@ plain-tells = record {
       let (c, d, z) = label-inj p q (f _ _ (i .0) (j .0) s) in (kind-inj k l c, d, z);
 }
 
+-- ---- records by an epoch, and a name's own
+
+pub by-in : (t : ℕ) (rs : List Record) (r : Record) → r ∈ byEpoch t rs → r ∈ rs
+unfolding byEpoch
+by-in t rs r m = keep-in _ rs r m
+
+pub in-own : (lab : Labelling) (name : Bytes) (rs : List Record) (q : Record) → q ∈ rs → lab .person (q .name) ≡ lab .person name → q ∈ ownRecords lab name rs
+unfolding ownRecords sameName
+in-own lab name rs q m e = in-keep _ rs q m (eq-same e)
+
 -- ---- numbers of labels are small
 
 no-log : log2 zero ≤ 9
@@ -71,20 +81,15 @@ module _ (lab : Labelling) (name : Bytes) (t c : ℕ) (rs : List Record) (fits :
   abbrev mine : List Record
   mine = versionsBy lab name t rs
 
-  by-in : (r : Record) → r ∈ byEpoch t rs → RecordFits r
-  unfolding byEpoch
-  by-in r i = all-in RecordFits rs fits r (keep-in _ rs r i)
-
-  own-in : (r : Record) → r ∈ byEpoch t rs → lab .person (r .name) ≡ lab .person name → r ∈ mine
-  unfolding ownRecords sameName
-  own-in r i e = in-keep _ (byEpoch t rs) r i (eq-same e)
+  fits-by : (r : Record) → r ∈ byEpoch t rs → RecordFits r
+  fits-by r i = all-in RecordFits rs fits r (by-in t rs r i)
 
   mine-in : (r : Record) → r ∈ mine → r ∈ byEpoch t rs
   unfolding ownRecords
   mine-in r m = keep-in _ (byEpoch t rs) r m
 
   pub few : length mine ≤ versionMost
-  few = runs-few mine (versions-run lab name c t rs shape) (in-all _ mine (λ r m. by-in r (mine-in r m)))
+  few = runs-few mine (versions-run lab name c t rs shape) (in-all _ mine (λ r m. fits-by r (mine-in r m)))
 
   own-most : (r : Record) → r ∈ mine → r .version ≤ length mine
   own-most r m = omega (arith, all-in _ mine (runs-most 0 0 mine (versions-run lab name c t rs shape)) r m)
@@ -131,7 +136,7 @@ module _ (lab : Labelling) (name : Bytes) (t c : ℕ) (rs : List Record) (fits :
         let w : All (λ s. s ∈ labelStrings lab name t rs asked) (askedStrings lab name (missing x)) =
         in-all (λ s. s ∈ labelStrings lab name t rs asked) (askedStrings lab name (missing x)) (λ s j. in-left s A B (in-flat (askedStrings lab name) asked (missing x) s m j)) in
         let (a, b, p) = telling .parts (labelStrings lab name t rs asked) one k (kindOf x) n (numberOf x) (lab .person (r .name)) (lab .person name) h small v w e in
-        (a, b, own-most r (own-in r i p))
+        (a, b, own-most r (in-own lab name (byEpoch t rs) r i p))
 
     none-in-all : ((r : Record) → RecordFits r → ¬ ((version ≡ kindOf x) × (r .version ≡ numberOf x) × (r .version ≤ length mine)))
         → ((r : Record) → RecordFits r → ¬ ((marker ≡ kindOf x) × (log2 (r .version) ≡ numberOf x) × (r .version ≤ length mine)))
@@ -140,11 +145,11 @@ module _ (lab : Labelling) (name : Bytes) (t c : ℕ) (rs : List Record) (fits :
     none-in-all v w = not-held _ _ (all-flat _ (allLeaves lab) (byEpoch t rs) (in-all _ (byEpoch t rs) (λ r i. (first r i, second r i (eqb (2 ^ log2 (r .version)) (r .version)) refl))))
       where
         first : (r : Record) → r ∈ byEpoch t rs → ¬ (bitsOf (lab .label version (r .version) (lab .person (r .name))) ≡ labelAt lab name x)
-        first r i e = v r (by-in r i) (told r i version (r .version) (omega (arith, by-in r i .most)) (version-in r) e)
+        first r i e = v r (fits-by r i) (told r i version (r .version) (omega (arith, fits-by r i .most)) (version-in r) e)
 
         second : (r : Record) → r ∈ byEpoch t rs → (b : Bool) → eqb (2 ^ log2 (r .version)) (r .version) ≡ b
             → All (λ y. ¬ (key y ≡ labelAt lab name x)) (cond b (leafOf lab marker (log2 (r .version)) (r .name) (zeros wide) (r .epoch) ∷ []) [])
-        second r i true q = (λ e. w r (by-in r i) (told r i marker (log2 (r .version)) (omega (arith, small-log (r .version) (by-in r i .most))) (marker-in r q) e), tt)
+        second r i true q = (λ e. w r (fits-by r i) (told r i marker (log2 (r .version)) (omega (arith, small-log (r .version) (fits-by r i .most))) (marker-in r q) e), tt)
         second r i false q = tt
 
     none-in-old : ((r : Record) → 1 < r .version → ¬ ((version ≡ kindOf x) × (r .version - 1 ≡ numberOf x) × (r .version ≤ length mine)))
@@ -154,7 +159,7 @@ module _ (lab : Labelling) (name : Bytes) (t c : ℕ) (rs : List Record) (fits :
       where
         by : (r : Record) → r ∈ byEpoch t rs → (b : Bool) → ltb 1 (r .version) ≡ b
             → All (λ y. ¬ (key y ≡ labelAt lab name x)) (cond b (leafOf lab version (r .version - 1) (r .name) (zeros wide) (r .epoch) ∷ []) [])
-        by r i true q = (λ e. v r (ltb-true _ _ q) (told r i version (r .version - 1) (omega (arith, by-in r i .most)) (old-in r q) e), tt)
+        by r i true q = (λ e. v r (ltb-true _ _ q) (told r i version (r .version - 1) (omega (arith, fits-by r i .most)) (old-in r q) e), tt)
         by r i false q = tt
 
   -- what is not there while the name has its versions

@@ -169,6 +169,7 @@ fn call_program(r: Request, space: &mut [u8])
 // Answers a call of number 1 to 7.
 pub fn answer(call: u8, r: Request, space: &mut [u8])
     requires { ⌜ Spacious (now space) ⌝ }
+    ensures { λ _. ⌜ Spacious (now (space .exit)) ⌝ }
 {
     match call {
         1 => call_sha256(r, space),

@@ -94,6 +94,7 @@ fn call_publish(r: Request, space: &mut [u8], spare: &mut [u8])
 // Answers call 10 or 11.
 pub fn answer(call: u8, r: Request, space: &mut [u8], spare: &mut [u8])
     requires { ⌜ Spacious (now space) × Roomy (now spare) ⌝ }
+    ensures { λ _. ⌜ Spacious (now (space .exit)) × Roomy (now (spare .exit)) ⌝ }
 {
     match call {
         10 => call_start(r, space),

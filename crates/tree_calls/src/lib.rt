@@ -73,6 +73,7 @@ fn call_tree_path(r: Request, space: &mut [u8])
 // Answers call 8 or 9.
 pub fn answer(call: u8, r: Request, space: &mut [u8])
     requires { ⌜ Spacious (now space) ⌝ }
+    ensures { λ _. ⌜ Spacious (now (space .exit)) ⌝ }
 {
     match call {
         8 => call_tree_root(r, space),

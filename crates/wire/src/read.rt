@@ -108,7 +108,7 @@ pub fn read_field(r: Request, buffer: &mut [u8]) -> Field
 // Reads a field of up to so many bytes into the space, from place `at` on.
 pub fn read_at(r: Request, space: &mut [u8], at: usize, most: usize) -> Field
     requires { ⌜ at + most ≤ length (now space) ⌝ }
-    ensures { λ f. ⌜ (f .length ≤ most) × (at + f .length ≤ length (now (space .exit))) ⌝ }
+    ensures { λ f. ⌜ (f .length ≤ most) × (at + f .length ≤ length (now (space .exit))) × After r (f .rest) (f .length) ⌝ }
 {
     let after = at + most;
     read_field(r, &mut space[at..after])

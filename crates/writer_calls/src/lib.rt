@@ -117,8 +117,8 @@ fn write_from(call: u8, space: &[u8], t: Tables, name: usize, epoch: u32, out: &
     );
 }
 
-// Answers a call of number 12 or 13. A name of up to 1,024 bytes stands at the space's start.
-pub fn answer(call: u8, r: Request, space: &mut [u8], spare: &mut [u8])
+// A name of up to 1,024 bytes stands at the space's start.
+fn call_write(call: u8, r: Request, space: &mut [u8], spare: &mut [u8])
     requires { ⌜ Spacious (now space) × Roomy (now spare) ⌝ }
 {
     let t = read_tables(r, space);
@@ -152,8 +152,7 @@ fn audit_from(space: &[u8], t: Tables, epoch: u32, out: &mut [u8])
     write_step(&space[a..k], &space[b..m], t.state, epoch, out);
 }
 
-// Answers call 14. It is not an arm of `answer`: the compiler would join the frames of all three writers, with their arrays, in one.
-pub fn answer_audit(r: Request, space: &mut [u8], spare: &mut [u8])
+fn call_write_audit(r: Request, space: &mut [u8], spare: &mut [u8])
     requires { ⌜ Spacious (now space) × Roomy (now spare) ⌝ }
 {
     let t = read_tables(r, space);
@@ -166,4 +165,20 @@ pub fn answer_audit(r: Request, space: &mut [u8], spare: &mut [u8])
     } else {
         print_bad(rest);
     }
+}
+
+// Answers a call of number 12 or 13.
+pub fn answer(call: u8, r: Request, space: &mut [u8], spare: &mut [u8])
+    requires { ⌜ Spacious (now space) × Roomy (now spare) ⌝ }
+    ensures { λ _. ⌜ Spacious (now (space .exit)) × Roomy (now (spare .exit)) ⌝ }
+{
+    call_write(call, r, space, spare);
+}
+
+// Answers call 14. It is not an arm of `answer`: the compiler would join the frames of all three writers, with their arrays, in one.
+pub fn answer_audit(r: Request, space: &mut [u8], spare: &mut [u8])
+    requires { ⌜ Spacious (now space) × Roomy (now spare) ⌝ }
+    ensures { λ _. ⌜ Spacious (now (space .exit)) × Roomy (now (spare .exit)) ⌝ }
+{
+    call_write_audit(r, space, spare);
 }
