@@ -133,7 +133,6 @@ found s at x r w h =
 abbrev pub takenAs : Bytes → Bytes → Path → P.Path → Taken
 takenAs label root p x = record {
   good = true;
-  next = p .next;
   nodes = p .count;
   matches = same (pathRoot (bitsOf label) x) root;
   shows = shownBy (bitsOf label) x;
@@ -151,11 +150,11 @@ module _ (s : Bytes) (at : ℕ) (w : Bytewise s) (p : Path) (parsed : p ≡ path
       by (got x r) e g = found s at x r w e .stands
 
   module _ (label root : Bytes) where
-    pub taken-bad : p .good ≡ false → taken s at label root ≡ takenOf (length s) label root bad
+    pub taken-bad : p .good ≡ false → taken s at label root ≡ takenOf label root bad
     unfolding pathAt taken
     taken-bad g = by (pathField .read (drop at s)) (rw parsed at g)
       where
-        by : (x : Read P.Path) → pathOf (length s) at x .good ≡ false → takenOf (length s) label root x ≡ takenOf (length s) label root bad
+        by : (x : Read P.Path) → pathOf (length s) at x .good ≡ false → takenOf label root x ≡ takenOf label root bad
         by bad g = refl
         by (got x r) g = not-both refl g
 
@@ -164,6 +163,6 @@ module _ (s : Bytes) (at : ℕ) (w : Bytewise s) (p : Path) (parsed : p ≡ path
     taken-good g = rw parsed (by (pathField .read (drop at s)) refl (rw parsed at g))
       where
         by : (x : Read P.Path) → pathField .read (drop at s) ≡ x → pathOf (length s) at x .good ≡ true
-            → takenOf (length s) label root x ≡ takenAs label root (pathOf (length s) at x) (pathIn s (pathOf (length s) at x))
+            → takenOf label root x ≡ takenAs label root (pathOf (length s) at x) (pathIn s (pathOf (length s) at x))
         by bad e g = not-both g refl
         by (got x r) e g = ap (takenAs label root (pathOf (length s) at (got x r))) (sym (found s at x r w e .is))

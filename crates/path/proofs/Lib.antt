@@ -2,4 +2,3 @@
 pub mod Climb
 pub mod Parting
 pub mod Found
-pub mod Wide

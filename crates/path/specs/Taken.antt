@@ -1,6 +1,6 @@
 -- A path as it is taken for a label under a root: whether it gives the root, and what it shows.
 use mathlib.Core.Bool.{Bool, true, false, cond, _&&_}
-use Prim.Native.Nat.{ℕ, _-_}
+use Prim.Native.Nat.{ℕ}
 use lib.Dec.{ltb}
 use lib.ListN.{length, drop}
 use Rattle.paper.specs.Numbers.{wide}
@@ -32,12 +32,11 @@ shownBy L x = shownAt L (lastLength (x .steps)) (x .end)
 abbrev pub parting : ℕ → ℕ → ℕ → Shown
 parting k n d = absentBy (ltb k d && ltb d n)
 
--- a path that was read in n bytes, for a label and a root
-abbrev pub takenOf : ℕ → Bytes → Bytes → Read P.Path → Taken
-takenOf n label root bad = record { good = false; next = 0; nodes = 0; matches = false; shows = Neither; commitment = zeros wide }
-takenOf n label root (got x r) = record {
+-- a path that was read, for a label and a root
+abbrev pub takenOf : Bytes → Bytes → Read P.Path → Taken
+takenOf label root bad = record { good = false; nodes = 0; matches = false; shows = Neither; commitment = zeros wide }
+takenOf label root (got x r) = record {
   good = true;
-  next = n - length r;
   nodes = length (x .steps);
   matches = same (pathRoot (bitsOf label) x) root;
   shows = shownBy (bitsOf label) x;
@@ -46,4 +45,4 @@ takenOf n label root (got x r) = record {
 
 -- the path that stands in s from `at` on
 unfoldable pub taken : Bytes → ℕ → Bytes → Bytes → Taken
-taken s at label root = takenOf (length s) label root (pathField .read (drop at s))
+taken s at label root = takenOf label root (pathField .read (drop at s))

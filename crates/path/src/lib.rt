@@ -1,14 +1,11 @@
 // A path of a lookup or history proof, taken at its place in the lent bytes: the root that it gives for a label, and what its end
 // shows.
 mod absence;
-mod reader;
 mod root;
 
 use absence::shows;
 use path_form::parse;
 use ranges::same;
-use reader::next_path;
-use reader::open;
 use root::root_of;
 ghost use mathlib.Core.Path.{_≡_};
 ghost use Rattle.path.specs.Taken.{taken};
@@ -23,22 +20,20 @@ pub enum Shown {
 // A path that was taken for a label under a root: how many nodes its steps are, whether it gives the root, and what it shows.
 pub struct Taken {
     pub good: bool,
-    pub next: usize,
     pub nodes: u32,
     pub matches: bool,
     pub shows: Shown,
     pub commitment: [u8; 32],
 }
 
-// What `take` answers, worked out on slice and place.
-fn taken_at(s: &[u8], at: usize, label: [u8; 32], root: [u8; 32]) -> Taken
+// The path that stands in `s` from `at` on, taken for `label` in the tree with that root.
+pub fn take(s: &[u8], at: usize, label: [u8; 32], root: [u8; 32]) -> Taken
     ensures { λ r. ⌜ r ≡ taken (now (s .entry)) at label root ⌝ }
 {
     let path = parse(s, at);
     if !path.good {
         return Taken {
             good: false,
-            next: 0,
             nodes: 0,
             matches: false,
             shows: Shown::Neither,
@@ -51,17 +46,9 @@ fn taken_at(s: &[u8], at: usize, label: [u8; 32], root: [u8; 32]) -> Taken
     let commitment = path.commitment;
     Taken {
         good: true,
-        next: path.next,
         nodes,
         matches,
         shows: shows(s, label, path),
         commitment,
     }
-}
-
-// The path that stands in `s` from `at` on, taken for `label` in the tree with that root.
-pub fn take(s: &[u8], at: usize, label: [u8; 32], root: [u8; 32]) -> Taken
-    ensures { λ r. ⌜ r ≡ taken (now (s .entry)) at label root ⌝ }
-{
-    next_path(open(s, at), label, root)
 }

@@ -22,13 +22,13 @@ use Rattle.paper.proofs.Lists.{all-drop}
 use Rattle.paper.proofs.Proofs.{path-lawful}
 use Rattle.paper.proofs.Fits.{path-fits}
 use Rattle.paper.proofs.Counts.{nodes-length}
-use Rattle.path_form.specs.Parsed.{commitmentOf}
+use Rattle.path_form.specs.Parsed.{commitmentOf, pathOf, pathAt}
 use Rattle.path.specs.Taken.{absentBy, shownAt, takenOf, taken}
 use Rattle.path.specs.declared.Taken.{Taken}
 use Rattle.plan.specs.Asked.{placeOf}
 use Rattle.shown.specs.Form.{headIn}
 use Rattle.shown.specs.Terms.{askedOf, termsOf, onTerms, metBy}
-use Rattle.walks.specs.Walk.{labelOf, leafEpoch, steppedOf, stepped, walked, walks, Ready}
+use Rattle.walks.specs.Walk.{labelOf, pathOn, steppedOf, stepped, walked, walks, Ready}
 use Rattle.shown.specs.declared.Asked.{Asked}
 use Rattle.walks.specs.declared.Walk.{Walk}
 use Rattle.walks.specs.declared.Walk.the-variants.{On, Refused}
@@ -36,7 +36,7 @@ use Rattle.fields.proofs.Behind.{first-of}
 
 -- ---- one path
 
--- where no leaf of the label is shown, its absence is all that can be met, and there is no epoch
+-- where no leaf of the label is shown, its absence is all that can be met
 shut-out : (a : Asked) (c : Bytes) (b : Bool) → cond (a .there) false b ≡ metBy a c (absentBy b)
 shut-out a c b = by (a .there) b
   where
@@ -45,10 +45,6 @@ shut-out a c b = by (a .there) b
     by true false = refl
     by false true = refl
     by false false = refl
-
-no-epoch : (b : Bool) → 0 ≡ leafEpoch (absentBy b)
-no-epoch true = refl
-no-epoch false = refl
 
 -- what a path's end shows is what is asked, or not
 met-end : (a : Asked) (L : Bits) (k : ℕ) (e : End)
@@ -63,18 +59,12 @@ met-end a L k (other m c e) = shut-out a (commitmentOf none) (absent L k (other 
 met-end a L k (off p l r) = shut-out a (commitmentOf none) (absent L k (off p l r))
 met-end a L k none = shut-out a (commitmentOf none) true
 
-epoch-end : (L : Bits) (k : ℕ) (e : End) → epochOf e ≡ leafEpoch (shownAt L k e)
-epoch-end L k (this c e) = refl
-epoch-end L k (other m c e) = no-epoch (absent L k (other m c e))
-epoch-end L k (off p l r) = no-epoch (absent L k (off p l r))
-epoch-end L k none = no-epoch (absent L k none)
-
 -- a walk that goes on from a path as it was taken: "4 before 5"
 abbrev steppedBy : Asked → ℕ → Taken → Walk
 steppedBy a digests t =
     cond (t .good)
     (cond (t .matches)
-    (cond (metBy a (t .commitment) (t .shows)) (On (t .next) (digests + t .nodes + 2) (leafEpoch (t .shows))) (Refused RULE))
+    (cond (metBy a (t .commitment) (t .shows)) (On (digests + t .nodes + 2)) (Refused RULE))
     (Refused ROOT))
     (Refused FORM)
 
@@ -85,9 +75,9 @@ module _ (s name : Bytes) (a : Asked) (at digests : ℕ) (label root : Bytes) (t
   by-taken = rw (took, own, tree) (by (pathField .read (drop at s)))
     where
       by : (x : Read P.Path) → steppedOf s name a digests x
-          ≡ steppedBy a digests (takenOf (length s) (labelOf name (a .place)) (rootAt (headIn s) (placeOf (a .place))) x)
+          ≡ steppedBy a digests (takenOf (labelOf name (a .place)) (rootAt (headIn s) (placeOf (a .place))) x)
       by bad = refl
-      by (got x r) = rw (met-end a (bitsOf (labelOf name (a .place))) (lastLength (x .steps)) (x .end), epoch-end (bitsOf (labelOf name (a .place))) (lastLength (x .steps)) (x .end))
+      by (got x r) = rw (met-end a (bitsOf (labelOf name (a .place))) (lastLength (x .steps)) (x .end))
 
   pub step-bad : t .good ≡ false → stepped s name a at digests ≡ Refused FORM
   step-bad g = by-taken ∙ rw g
@@ -99,7 +89,7 @@ module _ (s name : Bytes) (a : Asked) (at digests : ℕ) (label root : Bytes) (t
   step-rule g m r = by-taken ∙ rw (g, m, r)
 
   pub step-on : t .good ≡ true → t .matches ≡ true → metBy a (t .commitment) (t .shows) ≡ true
-      → stepped s name a at digests ≡ On (t .next) (digests + t .nodes + 2) (leafEpoch (t .shows))
+      → stepped s name a at digests ≡ On (digests + t .nodes + 2)
   step-on g m r = by-taken ∙ rw (g, m, r)
 
 -- "count m (2 bytes, 1 to 256)"
@@ -107,11 +97,16 @@ pub nodes-few : (s : Bytes) (at : ℕ) (label root : Bytes) → Bytewise s → t
 unfolding taken
 nodes-few s at label root w = by (pathField .read (drop at s)) refl
   where
-    by : (x : Read P.Path) → pathField .read (drop at s) ≡ x → takenOf (length s) label root x .nodes ≤ 256
+    by : (x : Read P.Path) → pathField .read (drop at s) ≡ x → takenOf label root x .nodes ≤ 256
     by bad e = omega arith
     by (got x r) e = path-fits x (path-lawful .tells (drop at s) x r (all-drop _ at s w) e .0) .most
 
 -- ---- path after path
+
+-- what is read at a place tells the place behind it
+pub path-moves : (s : Bytes) (at next : ℕ) (x : P.Path) → next ≤ length s → pathField .read (drop at s) ≡ got x (drop next s) → pathOn s at ≡ next
+unfolding pathAt
+path-moves s at next x l e = let n : length s - length (drop next s) ≡ next = omega (arith, length-drop next s) in ap (λ x. pathOf (length s) at x .next) e ∙ n
 
 -- the terms of a proof are those that are asked of a place
 pub record Suits (terms : Terms) (a : Asked) : Type 0 where
@@ -121,63 +116,56 @@ pub record Suits (terms : Terms) (a : Asked) : Type 0 where
 -- what a walk comes to, where a refusal is made one way and the count another
 abbrev pub over : {A : Type 0} → (ℕ → A) → (ℕ → A) → Walk → A
 over refuse answer (Refused n) = refuse n
-over refuse answer (On at digests e) = answer digests
+over refuse answer (On digests) = answer digests
 
--- where a path that stands there passes, the walk goes on behind it, at the epoch of its leaf
-pub record Passed (s : Bytes) (at digests next d e : ℕ) : Type 0 where
+-- where a path that stands there passes, it is counted
+pub record Passed (s : Bytes) (at digests d : ℕ) : Type 0 where
   pub path : P.Path
   pub behind : Bytes
   pub reads : pathField .read (drop at s) ≡ got path behind
-  pub place : next ≡ length s - length behind
   pub count : d ≡ digests + length (path .steps) + 2
-  pub epoch : e ≡ epochOf (path .end)
 
 -- a walk that has counted at most m digests
 abbrev pub Counted : ℕ → Walk → Type 0
 Counted m (Refused n) = Unit {0}
-Counted m (On at d e) = d ≤ m
+Counted m (On d) = d ≤ m
 
 module _ (s name : Bytes) where
   -- whether a path gives the root of what it is asked for
   abbrev rooted : Asked → P.Path → Bool
   rooted a x = same (pathRoot (labelAt plain name (placeOf (a .place))) x) (rootAt (headIn s) (placeOf (a .place)))
 
-  pub step-passed : (a : Asked) (at digests next d e : ℕ) → stepped s name a at digests ≡ On next d e → Passed s at digests next d e
+  pub step-passed : (a : Asked) (at digests d : ℕ) → stepped s name a at digests ≡ On d → Passed s at digests d
   unfolding stepped pathTests verdict
-  step-passed a at digests next d e h = by (pathField .read (drop at s)) refl h
+  step-passed a at digests d h = by (pathField .read (drop at s)) refl h
     where
       on : (x : P.Path) (r : Bytes) → pathField .read (drop at s) ≡ got x r → (b c : Bool)
-          → cond b (cond c (On (length s - length r) (digests + length (x .steps) + 2) (epochOf (x .end))) (Refused RULE)) (Refused ROOT) ≡ On next d e → Passed s at digests next d e
-      on x r q true true h = record { path = x; behind = r; reads = q; place = cc; count = cc; epoch = cc }
+          → cond b (cond c (On (digests + length (x .steps) + 2)) (Refused RULE)) (Refused ROOT) ≡ On d → Passed s at digests d
+      on x r q true true h = record { path = x; behind = r; reads = q; count = cc }
       on x r q true false h = let z : _≡_ {A = ℕ} 0 1 = cc in absurd (omega arith)
       on x r q false c h = let z : _≡_ {A = ℕ} 0 1 = cc in absurd (omega arith)
 
-      by : (x : Read P.Path) → pathField .read (drop at s) ≡ x → steppedOf s name a digests x ≡ On next d e → Passed s at digests next d e
+      by : (x : Read P.Path) → pathField .read (drop at s) ≡ x → steppedOf s name a digests x ≡ On d → Passed s at digests d
       by bad q h = let z : _≡_ {A = ℕ} 0 1 = cc in absurd (omega arith)
       by (got x r) q h = on x r q (rooted a x) (meets plain name (termsOf a) (askedOf a) x) h
 
   -- a path counts at most 258 digests, so a walk that has counted at most m has room for one path more
-  pub walked-counted : Bytewise s → (a : Asked) (m : ℕ) (v u : Walk) → u ≡ walked s name a v → Counted m v → Counted (m + 258) u
-  walked-counted w a m v (Refused n) q h = tt
-  walked-counted w a m (Refused n) (On next d′ e′) q h = let z : _≡_ {A = ℕ} 0 1 = cc in absurd (omega arith)
-  walked-counted w a m (On at d e) (On next d′ e′) q h =
-      let p = step-passed a at d next d′ e′ (sym q) in
+  pub walked-counted : Bytewise s → (a : Asked) (at m : ℕ) (v u : Walk) → u ≡ walked s name a at v → Counted m v → Counted (m + 258) u
+  walked-counted w a at m v (Refused n) q h = tt
+  walked-counted w a at m (Refused n) (On d′) q h = let z : _≡_ {A = ℕ} 0 1 = cc in absurd (omega arith)
+  walked-counted w a at m (On d) (On d′) q h =
+      let p = step-passed a at d d′ (sym q) in
       let f = path-lawful .tells (drop at s) (p .path) (p .behind) (all-drop _ at s w) (p .reads) .0 in
       omega (arith, p .count, path-fits (p .path) f .most)
 
   pub counted-ready : (m : ℕ) (v : Walk) → 106 ≤ length s → length name ≤ nameMost → m + 258 < 2 ^ 32 → Counted m v → Ready s name v
   counted-ready m (Refused n) f l r h = tt
-  counted-ready m (On at d e) f l r h = record { front = f; short = l; room = omega arith }
+  counted-ready m (On d) f l r h = record { front = f; short = l; room = omega arith }
 
-  pub walks-refused : (l : List Asked) (n : ℕ) → walks s name l (Refused n) ≡ Refused n
+  pub walks-refused : (l : List Asked) (at n : ℕ) → walks s name l at (Refused n) ≡ Refused n
   unfolding walks
-  walks-refused [] n = refl
-  walks-refused (a ∷ l) n = walks-refused l n
-
-  pub walks-append : (l m : List Asked) (w : Walk) → walks s name (l ++ m) w ≡ walks s name m (walks s name l w)
-  unfolding walks
-  walks-append [] m w = refl
-  walks-append (a ∷ l) m w = walks-append l m (walked s name a w)
+  walks-refused [] at n = refl
+  walks-refused (a ∷ l) at n = walks-refused l (pathOn s at) n
 
   module _ (terms : Terms) where
     meets-same : (a : Asked) (x : P.Path) → Suits terms a → meets plain name (termsOf a) (askedOf a) x ≡ meets plain name terms (askedOf a) x
@@ -199,33 +187,31 @@ module _ (s name : Bytes) where
         omega (arith, length-append (map nodeString N) (pathStrings plain name (map askedOf l) ps), length-map N nodeString, nodes-length (labelAt plain name (placeOf (a .place))) (x .steps) (x .end))
 
     -- a path that stands there is taken by its two tests
-    stepped-at : (a : Asked) (x : P.Path) (at d next : ℕ) → Suits terms a → next ≤ length s → pathField .read (drop at s) ≡ got x (drop next s)
-        → stepped s name a at d
-        ≡ cond (rooted a x) (cond (meets plain name terms (askedOf a) x) (On next (d + length (x .steps) + 2) (epochOf (x .end))) (Refused RULE)) (Refused ROOT)
+    stepped-at : (a : Asked) (x : P.Path) (r : Bytes) (at d : ℕ) → Suits terms a → pathField .read (drop at s) ≡ got x r
+        → stepped s name a at d ≡ cond (rooted a x) (cond (meets plain name terms (askedOf a) x) (On (d + length (x .steps) + 2)) (Refused RULE)) (Refused ROOT)
     unfolding stepped pathTests verdict
-    stepped-at a x at d next u r e =
-        let n : length s - length (drop next s) ≡ next = omega (arith, length-drop next s) in
-        rw (e, n, meets-same a x u)
+    stepped-at a x r at d u e = rw (e, meets-same a x u)
 
     -- the tests of all paths in order, and the count of all the strings that they hash
     module _ (w : Bytewise s) {A : Type 0} (refuse answer : ℕ → A) where
-      pub walks-tests : (l : List Asked) (ps : List P.Path) (at d e : ℕ) → at ≤ length s → times (length l) pathField .read (drop at s) ≡ got ps [] → All (Suits terms) l
-          → over refuse answer (walks s name l (On at d e))
+      pub walks-tests : (l : List Asked) (ps : List P.Path) (at d : ℕ) → at ≤ length s → times (length l) pathField .read (drop at s) ≡ got ps [] → All (Suits terms) l
+          → over refuse answer (walks s name l at (On d))
           ≡ verdict refuse (answer (d + length (pathStrings plain name (map askedOf l) ps))) (pathTests plain name (headIn s) terms (map askedOf l) ps)
       unfolding walks pathTests verdict pathStrings
-      walks-tests [] ps at d e r h u = let z : d ≡ d + 0 = omega arith in ap answer z
-      walks-tests (a ∷ l) ps at d e r h u =
+      walks-tests [] ps at d r h u = let z : d ≡ d + 0 = omega arith in ap answer z
+      walks-tests (a ∷ l) ps at d r h u =
           let f = first-of path-lawful s w at (length l) ps [] r h in
           let x = f .value in
-          let again = walks-tests l (f .others) (f .next) (d + length (x .steps) + 2) (epochOf (x .end)) (f .room) (f .rest) (u .1) in
+          let again = walks-tests l (f .others) (f .next) (d + length (x .steps) + 2) (f .room) (f .rest) (u .1) in
           subst
-          (λ ps. over refuse answer (walks s name l (stepped s name a at d))
+          (λ ps. over refuse answer (walks s name l (pathOn s at) (stepped s name a at d))
           ≡ verdict refuse (answer (d + length (pathStrings plain name (map askedOf (a ∷ l)) ps))) (pathTests plain name (headIn s) terms (map askedOf (a ∷ l)) ps))
           (f .is)
-          (rw (stepped-at a x at d (f .next) (u .0) (f .room) (f .reads), ← (count-step a l x (f .others) d)) (by x (f .next) _ again (rooted a x) (meets plain name terms (askedOf a) x)))
+          (rw (path-moves s at (f .next) x (f .room) (f .reads), stepped-at a x _ at d (u .0) (f .reads), ← (count-step a l x (f .others) d))
+          (by x (f .next) _ again (rooted a x) (meets plain name terms (askedOf a) x)))
         where
-          by : (x : P.Path) (next : ℕ) (v : A) → over refuse answer (walks s name l (On next (d + length (x .steps) + 2) (epochOf (x .end)))) ≡ v → (b c : Bool)
-              → over refuse answer (walks s name l (cond b (cond c (On next (d + length (x .steps) + 2) (epochOf (x .end))) (Refused RULE)) (Refused ROOT))) ≡ cond b (cond c v (refuse RULE)) (refuse ROOT)
+          by : (x : P.Path) (next : ℕ) (v : A) → over refuse answer (walks s name l next (On (d + length (x .steps) + 2))) ≡ v → (b c : Bool)
+              → over refuse answer (walks s name l next (cond b (cond c (On (d + length (x .steps) + 2)) (Refused RULE)) (Refused ROOT))) ≡ cond b (cond c v (refuse RULE)) (refuse ROOT)
           by x next v e true true = e
-          by x next v e true false = rw (walks-refused l RULE)
-          by x next v e false c = rw (walks-refused l ROOT)
+          by x next v e true false = rw (walks-refused l next RULE)
+          by x next v e false c = rw (walks-refused l next ROOT)

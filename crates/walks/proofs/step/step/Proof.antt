@@ -56,16 +56,15 @@ add-t15 c =
 
 returns-4 : tie.Need-returns-4
 returns-4 c =
-    let g = c .before .before in
+    let g = c .before in
     let m = g .before in
     let f = m .before .before in
     let e = f .before .before in
     let t = e .before .before in
     let a = start t .args in
     let r = t .take .result in
-    rw (c .leaf-epoch .ensures)
-    (sym (step-on (a .s .now) (a .name .now) (a .asked) (a .at) (a .digests) _ _ r (t .before .before .label-of .ensures) (t .before .root-at .ensures) (t .take .ensures)
-    (not-false (r .good) (e .if1 .left)) (not-false (r .matches) (f .if2 .left)) (sym (m .met .ensures) ∙ not-false (m .met .result) (g .if3 .left))))
+    sym (step-on (a .s .now) (a .name .now) (a .asked) (a .at) (a .digests) _ _ r (t .before .before .label-of .ensures) (t .before .root-at .ensures) (t .take .ensures)
+    (not-false (r .good) (e .if1 .left)) (not-false (r .matches) (f .if2 .left)) (sym (m .met .ensures) ∙ not-false (m .met .result) (g .if3 .left)))
 
 pub step-spec : {M : Type 1} → statement M
 step-spec =
@@ -80,5 +79,4 @@ step-spec =
     returns-3
     add-t14
     add-t15
-    (λ c κs. search needs)
     returns-4)
