@@ -14,7 +14,7 @@ ghost use Rattle.paper.specs.History.{historyAsked, markersBy};
 ghost use Rattle.plan.specs.Asked.{askedAt, markersOf};
 
 // The markers of n versions are those from 0 to floor(log2 n); without a version there is none.
-fn markers_of(n: u32) -> usize
+pub fn markers_of(n: u32) -> usize
     ensures { λ r. ⌜ r ≡ markersOf n ⌝ }
 {
     if n == 0 {
@@ -24,7 +24,7 @@ fn markers_of(n: u32) -> usize
 }
 
 // The markers that there can be by an epoch are those from 0 to min(9, floor(log2 T)). "For T = 0: no markers are asked absent."
-fn markers_by(epoch: u32) -> usize
+pub fn markers_by(epoch: u32) -> usize
     ensures { λ r. ⌜ r ≡ markersBy epoch ⌝ }
 {
     let marks = markers_of(epoch);

@@ -5,6 +5,8 @@ mod lookup;
 
 pub use history::history_asked;
 pub use history::history_paths;
+pub use history::markers_by;
+pub use history::markers_of;
 pub use lookup::lookup_asked;
 pub use lookup::lookup_paths;
 ghost use mathlib.Core.Path.{_≡_};

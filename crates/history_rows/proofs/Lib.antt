@@ -1,4 +1,0 @@
--- Laws of the rows of a history.
-pub mod Going
-pub mod Cursors
-pub mod Powers

@@ -1,0 +1,3 @@
+-- What the contracts of the rows say.
+pub mod Rows
+pub mod Order
