@@ -18,7 +18,14 @@ ghost use Rattle.walks.specs.Walk.{walks};
 ghost use Rattle.rows.specs.Order.{historyRow, HistoryReady};
 
 // The i-th row, from 0, which stands at `at`.
-pub(crate) fn history_row(s: &[u8], at: usize, name: &[u8], rows: Rows, i: usize, walk: Walk) -> Walk
+pub(crate) fn history_row(
+    s: &[u8],
+    at: usize,
+    name: &[u8],
+    rows: Rows,
+    i: usize,
+    walk: Walk,
+) -> Walk
     requires { ⌜ HistoryReady (now s) (now name) (rows .number) (rows .first) i at walk ⌝ }
     ensures { λ r. ⌜ r ≡ walks (now (s .entry)) (now (name .entry)) (historyRow (now (s .entry)) (rows .first) (rows .epoch) (rows .number) i) at walk ⌝ }
 {

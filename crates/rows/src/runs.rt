@@ -44,7 +44,13 @@ pub(crate) fn replaced(s: &[u8], name: &[u8], at: usize, first: usize, n: u16, w
     for i in 1..n {
         let leaf = leaf_at(s, later);
         let e = leaf.epoch as u64;
-        taken = take_path(s, name, here, taken, present(Place::InOld(i), [0u8; 32], e, e));
+        taken = take_path(
+            s,
+            name,
+            here,
+            taken,
+            present(Place::InOld(i), [0u8; 32], e, e),
+        );
         here = path_after(s, here);
         later = leaf.next;
     }
@@ -73,7 +79,15 @@ fn place(marker: bool, i: u16) -> Place
 }
 
 // Versions, or markers, from `low` up to `high` absent from *all*.
-pub(crate) fn absent(s: &[u8], name: &[u8], at: usize, marker: bool, low: u16, high: u16, walk: Walk) -> Walk
+pub(crate) fn absent(
+    s: &[u8],
+    name: &[u8],
+    at: usize,
+    marker: bool,
+    low: u16,
+    high: u16,
+    walk: Walk,
+) -> Walk
     requires { ⌜ Ahead (now s) (now name) (high - low) walk ⌝ }
     ensures { λ r. ⌜ r ≡ walks (now (s .entry)) (now (name .entry)) (lacks marker low high) at walk ⌝ }
 {
@@ -87,7 +101,14 @@ pub(crate) fn absent(s: &[u8], name: &[u8], at: usize, marker: bool, low: u16, h
 }
 
 // Markers from 0 up to `marks` present, each with the epoch of version 2^j.
-pub(crate) fn markers(s: &[u8], name: &[u8], at: usize, first: usize, marks: u16, walk: Walk) -> Walk
+pub(crate) fn markers(
+    s: &[u8],
+    name: &[u8],
+    at: usize,
+    first: usize,
+    marks: u16,
+    walk: Walk,
+) -> Walk
     requires { ⌜ Ahead (now s) (now name) marks walk × (marks ≤ 10) ⌝ }
     ensures { λ r. ⌜ r ≡ walks (now (s .entry)) (now (name .entry)) (row (askMarker (now (s .entry)) first) 0 marks) at walk ⌝ }
 {
@@ -95,7 +116,13 @@ pub(crate) fn markers(s: &[u8], name: &[u8], at: usize, first: usize, marks: u16
     let mut here = at;
     for j in 0..marks {
         let e = epoch_behind(s, first, (1usize << j) - 1) as u64;
-        taken = take_path(s, name, here, taken, present(Place::AsMarker(j), [0u8; 32], e, e));
+        taken = take_path(
+            s,
+            name,
+            here,
+            taken,
+            present(Place::AsMarker(j), [0u8; 32], e, e),
+        );
         here = path_after(s, here);
     }
     taken
