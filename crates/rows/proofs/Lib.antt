@@ -3,3 +3,4 @@ pub mod Going
 pub mod Cursors
 pub mod Powers
 pub mod Order
+pub mod Joined

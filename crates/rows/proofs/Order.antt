@@ -1,12 +1,11 @@
--- The rows in their order: what each is asked and how many paths it has; that the count has room for them all; and that one behind the
--- other they are all that is asked. Assumes nothing.
-use mathlib.Core.Path.{_≡_, refl, sym, ap, _∙_}
+-- The rows in their order: what each is asked, and how many paths it has. Assumes nothing.
+use mathlib.Core.Path.{_≡_, refl, ap}
 use mathlib.Core.Bool.{false}
-use mathlib.Core.List.{List, [], _∷_, _++_}
+use mathlib.Core.List.{[], _∷_}
 use Prim.Native.Nat.{ℕ, zero, suc, _+_, _-_, _*_, _^_, _≤_, _<_}
 use native.Mathlib.Omega.{arith}
 use lib.ListN.{length}
-use Rattle.paper.specs.Bytes.{Bytes, Bytewise}
+use Rattle.paper.specs.Bytes.{Bytes}
 use Rattle.paper.specs.Lookup.{lookupAsked}
 use Rattle.paper.specs.History.{markersBy}
 use Rattle.paper.proofs.Asked.{by-most}
@@ -15,14 +14,13 @@ use Rattle.plan.specs.declared.Place.the-variants.{InAll, InOld}
 use Rattle.plan.proofs.Markers.{markers-most}
 use Rattle.shown.specs.Form.{ItemStands, commitmentIn}
 use Rattle.shown.specs.declared.Asked.{Asked}
-use Rattle.walks.specs.Walk.{pathOn, walked, walks}
 use Rattle.walks.specs.declared.Walk.{Walk}
-use Rattle.rows.specs.Rows.{onward, epochFrom, askVersion, askReplaced, askCurrent, askMarker, lack, placeBy, used, ItemsStand}
-use Rattle.rows.specs.Order.{ofVersion, ofMarker, lookupRow, historyRow, rowOf, rowAsks, rowsAsk, rowAfter, keysIn, Laid, RowReady, LookupReady, HistoryReady}
+use Rattle.rows.specs.Rows.{onward, epochFrom, askVersion, askReplaced, askMarker, lack, placeBy, ItemsStand}
+use Rattle.rows.specs.Order.{ofVersion, ofMarker, lookupRow, historyRow, rowOf, keysIn, RowReady, LookupReady, HistoryReady}
 use Rattle.rows.specs.declared.Check.{Check}
 use Rattle.rows.specs.declared.Check.the-variants.{Lookup, History}
 use Rattle.rows.specs.declared.Rows.{Rows}
-use Rattle.rows.proofs.Going.{row-length, used-walks}
+use Rattle.rows.proofs.Going.{row-length}
 use Rattle.rows.proofs.Powers.{power}
 
 -- ---- a lookup's rows
@@ -111,11 +109,11 @@ module _ (s : Bytes) (first t : ℕ) where
   history-few n (suc (suc (suc (suc (suc zero))))) h = omega (arith, unmarked-length n, by-most t)
   history-few n (suc (suc (suc (suc (suc (suc i)))))) h = omega arith
 
-  row-few : (check : Check) (n i : ℕ) → n ≤ 1023 → length (rowOf s first t check n i) ≤ 1024
+  pub row-few : (check : Check) (n i : ℕ) → n ≤ 1023 → length (rowOf s first t check n i) ≤ 1024
   row-few Lookup n i h = omega (arith, lookup-few n i)
   row-few History n i h = history-few n i h
 
--- ---- the count has room
+-- ---- what is asked of the caller
 
 module _ (s name : Bytes) (check : Check) (n t first : ℕ) (i at : ℕ) (w : Walk) where
   abbrev rows : Rows

@@ -5,7 +5,7 @@ use mathlib.Core.List.{List, [], _∷_, _++_}
 use Prim.Native.Nat.{ℕ, zero, suc, _+_, _-_, _*_, _^_, _≤_}
 use lib.ListN.{length}
 use Rattle.paper.specs.Numbers.{wide, nameMost, versionMost}
-use Rattle.paper.specs.Bytes.{Bytes, zeros}
+use Rattle.paper.specs.Bytes.{Bytes, Bytewise, zeros}
 use Rattle.paper.specs.Bits.{log2}
 use Rattle.paper.specs.Lookup.{lookupKeys}
 use Rattle.paper.specs.History.{markersBy}
@@ -72,8 +72,9 @@ abbrev pub keysIn : Check → ℕ → ℕ
 keysIn Lookup v = lookupKeys v
 keysIn History n = n
 
--- a proof in layout, and a name that is short
+-- the bytes of a proof in layout, and a name that is short
 pub record Laid (s name : Bytes) (rows : Rows) : Type 0 where
+  pub bytes : Bytewise s
   pub front : 106 ≤ length s
   pub short : length name ≤ nameMost
   pub small : rows .number ≤ versionMost
