@@ -26,10 +26,6 @@ use Rattle.history_rows.specs.Rows.{endEpoch, onward, itemOn, pathOn}
 
 -- ---- what is read at a place tells the place behind it
 
-pub path-moves : (s : Bytes) (at next : ℕ) (x : P.Path) → next ≤ length s → pathField .read (drop at s) ≡ got x (drop next s) → pathOn s at ≡ next
-unfolding pathAt
-path-moves s at next x l e = let n : length s - length (drop next s) ≡ next = omega (arith, length-drop next s) in ap (λ x. pathOf (length s) at x .next) e ∙ n
-
 pub item-moves : (s : Bytes) → Bytewise s → (at next : ℕ) (x : Item) → next ≤ length s → itemField .read (drop at s) ≡ got x (drop next s) → itemOn s at ≡ next
 item-moves s w at next x l e =
     let (t, is) = item-told s at w x (drop next s) e in
@@ -39,16 +35,6 @@ item-moves s w at next x l e =
     let u : afterOf (length s) (got x (drop next s)) ≡ At (at + 33 + getD s at 0) = ap (afterOf (length s)) (sym e) ∙ o in
     let v : length s - length (drop next s) ≡ at + 33 + getD s at 0 = cc in
     omega (arith, length-drop next s)
-
-pub path-epoch : (s : Bytes) (at : ℕ) (x : P.Path) (r : Bytes) → pathField .read (drop at s) ≡ got x r → endEpoch (pathAt s at .«end») ≡ epochOf (x .end)
-unfolding pathAt
-path-epoch s at x r e = rw e (by _ (x .end))
-  where
-    by : (n : ℕ) (x : P.End) → endEpoch (placed n x) ≡ epochOf x
-    by n (this c e) = refl
-    by n (other m c e) = refl
-    by n (off p l r) = refl
-    by n none = refl
 
 -- ---- values one behind the other
 

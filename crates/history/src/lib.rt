@@ -1,53 +1,40 @@
 // The history check: a name's versions, all of them, against a head that the handset has. The proof is lent and read in place, and
-// its paths are taken row by row (`history_rows`).
+// its paths are taken row by row (`reader`, `rows`).
 use fields::After;
-use history_rows::absent;
-use history_rows::markers;
-use history_rows::replaced;
-use history_rows::versions;
 use names::is_name;
 use paper::HistoryAnswer;
-use plan::Place;
 use plan::history_paths;
+use reader::walk_rows;
+use rows::Check;
+use rows::Rows;
 use shown::FORM;
 use shown::Front;
 use shown::HEAD;
 use shown::INPUT;
 use shown::first_path;
 use shown::head_hashes;
-use shown::missing;
 use shown::read_front;
 use walks::Walk;
-use walks::take_path;
 ghost use mathlib.Core.Path.{_≡_};
-ghost use Prim.Native.Nat.{_+_};
 ghost use Rattle.paper.specs.Labelling.{plain};
 ghost use Rattle.paper.specs.History.{checkHistory};
-ghost use Rattle.walks.specs.Walk.{walks};
-ghost use Rattle.history.specs.Asks.{asks, answerOf, Laid};
+ghost use Rattle.rows.specs.Order.{Laid};
+ghost use Rattle.history.specs.Walk.{rowsOf, walkOf, answerOf};
 
-// All paths in their order, of which the first stands at `first`. The head and each key were counted before. By an epoch there can
-// be as many markers as a history without versions has paths.
+// What all paths come to, row by row, of which the first stands at `first`. The head and each key are counted before them.
 fn walk_paths(s: &[u8], name: &[u8], first: usize, n: u16, epoch: u32) -> Walk
-    requires { ⌜ Laid (now s) (now name) n ⌝ }
-    ensures { λ r. ⌜ r ≡ walks (now (s .entry)) (now (name .entry)) (asks (now (s .entry)) first epoch n) (Walk.On first (n + 1) 0) ⌝ }
+    requires { ⌜ Laid (now s) (now name) (rowsOf first n epoch) ⌝ }
+    ensures { λ r. ⌜ r ≡ walkOf (now (s .entry)) (now (name .entry)) first n epoch ⌝ }
 {
-    let most = history_paths(0, epoch) as u16;
-    let start = Walk::On {
-        at: first,
-        digests: n as u32 + 1,
-        epoch: 0,
+    let rows = Rows {
+        check: Check::History,
+        number: n,
+        epoch,
+        first,
     };
-    if n == 0 {
-        return absent(s, name, true, 0, most, start);
-    }
-    let marks = bits::marker_of(n as u32) as u16 + 1;
-    let all = versions(s, name, first, n, epoch, start);
-    let old = replaced(s, name, first, n, all);
-    let current = take_path(s, name, old, missing(Place::InOld(n)));
-    let last = absent(s, name, false, n + 1, 1u16 << marks, current);
-    let marked = markers(s, name, first, marks, last);
-    absent(s, name, true, marks, most, marked)
+    walk_rows(s, name, rows, Walk::On {
+        digests: n as u32 + 1,
+    })
 }
 
 // "a history its n, each with the head's epoch and its digests". A path that was refused refuses here.
@@ -56,11 +43,7 @@ fn answer(versions: u16, epoch: u32, walk: Walk) -> HistoryAnswer
 {
     match walk {
         Walk::Refused(number) => HistoryAnswer::Refused(number),
-        Walk::On {
-            at: _,
-            digests,
-            epoch: _,
-        } => HistoryAnswer::Accepted {
+        Walk::On { digests } => HistoryAnswer::Accepted {
             versions,
             epoch,
             digests,

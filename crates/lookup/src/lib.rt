@@ -43,11 +43,7 @@ fn answer(version: u16, epoch: u32, walk: Walk) -> LookupAnswer
 {
     match walk {
         Walk::Refused(number) => LookupAnswer::Refused(number),
-        Walk::On {
-            at: _,
-            digests,
-            epoch: _,
-        } => {
+        Walk::On { digests } => {
             if version == 0 {
                 LookupAnswer::NotRegistered { epoch, digests }
             } else {

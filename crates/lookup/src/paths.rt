@@ -1,55 +1,32 @@
-// The paths of a lookup, in their order.
-use bits::marker_of;
-use plan::Place;
-use shown::commitment_at;
-use shown::missing;
-use shown::present;
+// The paths of a lookup, in their order: three rows of one path, or one for version 0.
+use reader::walk_rows;
+use rows::Check;
+use rows::Rows;
 use walks::Walk;
-use walks::epoch_of;
-use walks::take_path;
 ghost use mathlib.Core.Path.{_≡_};
-ghost use Prim.Native.Nat.{_≤_};
-ghost use Rattle.lookup.specs.Walk.{registered, walkOf, WalkReady};
+ghost use Prim.Native.Nat.{_+_};
+ghost use Rattle.paper.specs.Lookup.{lookupKeys};
+ghost use Rattle.rows.specs.Order.{Laid};
+ghost use Rattle.lookup.specs.Walk.{rowsOf, walkOf};
 
-// "version v present in *all*, v absent from *old*, marker floor(log2 v) present in *all*. The version's leaf has the key's
-// commitment, and its epoch e has v ≤ e ≤ t; the marker's epoch is from 2^floor(log2 v) to e." Head and key are counted before.
-fn walk_registered(proof: &[u8], name: &[u8], start: usize, version: u16, epoch: u32) -> Walk
-    requires { ⌜ (WalkReady (now proof) (now name) version) × (1 ≤ version) ⌝ }
-    ensures { λ r. ⌜ r ≡ registered (now (proof .entry)) (now (name .entry)) start version epoch ⌝ }
+// "1 for the head, 1 for each key": those that are counted before the paths. Version 0 has no key.
+fn counted(version: u16) -> u32
+    ensures { λ r. ⌜ r ≡ 1 + lookupKeys version ⌝ }
 {
-    let own = commitment_at(proof, 108);
-    let marker = marker_of(version as u32);
-    let begun = Walk::On {
-        at: start,
-        digests: 2,
-        epoch: 0,
-    };
-    let current = present(Place::InAll(version), own, version as u64, epoch as u64);
-    let first = take_path(proof, name, begun, current);
-    let second = take_path(proof, name, first, missing(Place::InOld(version)));
-    let least = 1u64 << marker;
-    let marked = present(
-        Place::AsMarker(marker as u16),
-        [0u8; 32],
-        least,
-        epoch_of(first) as u64,
-    );
-    take_path(proof, name, second, marked)
+    if version == 0 { 1 } else { 2 }
 }
 
-// "If 0: one path, version 1 absent from *all*." The head is counted before.
+// What the paths come to, of which the first stands at `start`.
 pub(crate) fn walk_of(proof: &[u8], name: &[u8], start: usize, version: u16, epoch: u32) -> Walk
-    requires { ⌜ WalkReady (now proof) (now name) version ⌝ }
+    requires { ⌜ Laid (now proof) (now name) (rowsOf start version epoch) ⌝ }
     ensures { λ r. ⌜ r ≡ walkOf (now (proof .entry)) (now (name .entry)) start version epoch ⌝ }
 {
-    if version == 0 {
-        let begun = Walk::On {
-            at: start,
-            digests: 1,
-            epoch: 0,
-        };
-        take_path(proof, name, begun, missing(Place::InAll(1)))
-    } else {
-        walk_registered(proof, name, start, version, epoch)
-    }
+    let rows = Rows {
+        check: Check::Lookup,
+        number: version,
+        epoch,
+        first: start,
+    };
+    let digests = counted(version);
+    walk_rows(proof, name, rows, Walk::On { digests })
 }

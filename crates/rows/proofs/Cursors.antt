@@ -1,11 +1,17 @@
--- Places that move on with a loop, one key or one path a turn. Assumes nothing.
+-- Places that move on with a loop, one key or one path a turn, and the epochs there. Assumes nothing.
 use mathlib.Core.Path.{_≡_, refl, ap}
 use Prim.Native.Nat.{ℕ, _+_}
+use lib.ListN.{drop}
 use native.Mathlib.Numerals.{add-one}
 use Rattle.paper.specs.Bytes.{Bytes}
+use Rattle.paper.specs.Layout.{got}
+use Rattle.paper.specs.Fields.{pathField}
+use Rattle.paper.specs.Path.{this, other, off, none, epochOf}
+use Rattle.paper.specs.Path as P
+use Rattle.path_form.specs.Parsed.{placed, pathAt}
 use Rattle.walks.specs.Walk.{pathOn}
 use Rattle.rows.specs.declared.Leaf.{Leaf}
-use Rattle.rows.specs.Rows.{onward, itemOn, itemAt, leafAt, placeAt, epochFrom}
+use Rattle.rows.specs.Rows.{endEpoch, onward, itemOn, itemAt, leafAt, placeAt, epochFrom}
 
 onward-on : (on : ℕ → ℕ) (start k at : ℕ) → at ≡ onward on start k → on at ≡ onward on start (k + 1)
 unfolding onward
@@ -37,3 +43,14 @@ item-none s = refl
 pub epoch-none : (s : Bytes) (first : ℕ) → 0 ≡ epochFrom s first 0
 unfolding epochFrom
 epoch-none s first = refl
+
+-- the epoch of a path's leaf is that of the path that is read there
+pub path-epoch : (s : Bytes) (at : ℕ) (x : P.Path) (r : Bytes) → pathField .read (drop at s) ≡ got x r → endEpoch (pathAt s at .«end») ≡ epochOf (x .end)
+unfolding pathAt
+path-epoch s at x r e = rw e (by _ (x .end))
+  where
+    by : (n : ℕ) (x : P.End) → endEpoch (placed n x) ≡ epochOf x
+    by n (this c e) = refl
+    by n (other m c e) = refl
+    by n (off p l r) = refl
+    by n none = refl

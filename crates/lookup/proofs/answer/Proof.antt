@@ -16,7 +16,7 @@ returns-3 c =
     let w = c .before .before in
     let a = w .before .before .args in
     let g = w .walk2 .given .0 in
-    rw (w .walk2 .given .1) (sym (some-answer (a .version) (a .epoch) (g .0) (g .1 .0) (g .1 .1 .0) (c .if1 .left)))
+    rw (w .walk2 .given .1) (sym (some-answer (a .version) (a .epoch) (g .0) (c .if1 .left)))
 
 pub answer-spec : {M : Type 1} → statement M
 answer-spec = tie.close (tie.spec (λ c. search needs) (λ c. search needs) returns returns-2 returns-3)

@@ -15,7 +15,7 @@ use Rattle.names.proofs.Named.{name-short}
 use Rattle.shown.proofs.Fronts.{front-told}
 use Rattle.shown.proofs.Formed.{Formed, formed}
 use Rattle.lookup.specs.Walk.{answerOf}
-use Rattle.lookup.proofs.Tested.{key-stands}
+use Rattle.lookup.proofs.Tested.{keys-stand}
 use Rattle.lookup.proofs.Checked.{head-unsized, name-refused, no-front, no-body, head-refused, answered}
 use Rattle.lookup.proofs.check_lookup.Statement.{statement}
 use Rattle.lookup.proofs.check_lookup.Tie as tie
@@ -103,10 +103,13 @@ walk-of-requires c κs =
     let n = b .before .before .before .before in
     let i = n .before .before .before in
     let a = start i .args in
+    let t = front-told 1 (a .proof .now) (bytes i) _ _ (front n) in
     record {
-      front = front-told 1 (a .proof .now) (bytes i) _ _ (front n) .room;
+      bytes = bytes i;
+      front = omega (arith, t .room);
       short = name-short (a .name .now) (named i);
-      item = key-stands (a .proof .now) (bytes i) _ _ (front n) _ (form b);
+      small = t .small;
+      items = keys-stand (a .proof .now) (bytes i) _ _ (front n) _ (form b);
     }
 
 returns-6 : tie.Need-returns-6
