@@ -1,7 +1,7 @@
 -- What the history check answers, test by test in its order. Assumes nothing.
 use mathlib.Core.Path.{_≡_, sym, ap, _∙_}
 use mathlib.Core.Bool.{true, false}
-use Prim.Native.Nat.{ℕ, _+_}
+use Prim.Native.Nat.{ℕ}
 use lib.ListN.{length}
 use borrow.Author.Tests.{eq-eqb, ne-eqb}
 use Rattle.fips.specs.Sha256.{sha256}
@@ -16,12 +16,10 @@ use Rattle.paper.specs.Shows.{proofTests, inputTests}
 use Rattle.paper.specs.History.{historyAsked, historyField, historyTerms, historyStrings, historyRead, checkHistory}
 use Rattle.paper.specs.declared.HistoryAnswer.the-variants as H
 use Rattle.shown.specs.Form.{frontAt, headIn, firstPath}
-use Rattle.walks.specs.Walk.{walks}
 use Rattle.fields.specs.declared.After.the-variants.{Nowhere}
 use Rattle.shown.specs.declared.Front.the-variants as F
-use Rattle.walks.specs.declared.Walk.the-variants.{On}
 use Rattle.shown.proofs.Formed.{front-refused, body-refused, Formed}
-use Rattle.history.specs.Asks.{asks, answerOf}
+use Rattle.history.specs.Walk.{walkOf, answerOf}
 use Rattle.history.proofs.Tested.{read, tested}
 
 module _ (d name s : Bytes) where
@@ -56,6 +54,6 @@ module _ (d name s : Bytes) where
           unfolding verdict proofTests
           head-refused e = past-form ∙ rw e
 
-          pub answered : same (sha256 (headString (headIn s))) d ≡ true → checkHistory plain d name s ≡ answerOf n t (walks s name (asks s start t n) (On start (n + 1) 0))
+          pub answered : same (sha256 (headString (headIn s))) d ≡ true → checkHistory plain d name s ≡ answerOf n t (walkOf s name start n t)
           unfolding verdict proofTests
           answered e = past-form ∙ rw e (sym (tested s w n t front start f name))

@@ -1,5 +1,5 @@
 -- Keys and paths by their places: the k-th of a list that was read stands k times on from the first. Assumes nothing.
-use mathlib.Core.Path.{_≡_, refl, sym, ap, _∙_, subst}
+use mathlib.Core.Path.{_≡_, sym, ap, _∙_, subst}
 use mathlib.Core.List.{List}
 use Prim.Native.Nat.{ℕ, zero, suc, _+_, _-_, _≤_, _<_}
 use native.Mathlib.Omega.{arith}
@@ -9,20 +9,16 @@ use lib.ListN.{length, drop, getD, length-take, length-drop}
 use lib.Seq.{drop-drop, getD-drop}
 use Rattle.paper.specs.Bytes.{Bytes, Bytewise}
 use Rattle.paper.specs.Layout.{Layout, got, times}
-use Rattle.paper.specs.Fields.{pathField}
-use Rattle.paper.specs.Path.{this, other, off, none, epochOf}
-use Rattle.paper.specs.Path as P
 use Rattle.paper.specs.Shows.{Item, itemField}
 use Rattle.paper.proofs.Lists.{all-drop}
 use Rattle.paper.proofs.Layouts.{Lawful}
 use Rattle.paper.proofs.Proofs.{item-lawful}
 use Rattle.paper.proofs.Fits.{item-fits}
-use Rattle.path_form.specs.Parsed.{placed, pathOf, pathAt}
 use Rattle.fields.specs.After.{afterOf}
 use Rattle.fields.specs.declared.After.the-variants.{At}
 use Rattle.fields.proofs.Behind.{First, first-of}
 use Rattle.shown.proofs.Keyed.{item-told, item-after}
-use Rattle.history_rows.specs.Rows.{endEpoch, onward, itemOn, pathOn}
+use Rattle.rows.specs.Rows.{onward, itemOn}
 
 -- ---- what is read at a place tells the place behind it
 

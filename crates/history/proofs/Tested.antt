@@ -32,7 +32,7 @@ use Rattle.plan.specs.Asked.{markersOf}
 use Rattle.plan.proofs.Rows.{asked-length}
 use Rattle.shown.specs.Form.{frontAt, headIn, itemIn, ItemStands, commitmentIn}
 use Rattle.shown.specs.Terms.{askedOf}
-use Rattle.walks.specs.Walk.{walks}
+use Rattle.walks.specs.Walk.{pathOn}
 use Rattle.shown.specs.declared.Front.the-variants as F
 use Rattle.shown.specs.declared.Asked.{Asked}
 use Rattle.plan.specs.declared.Place.{Place}
@@ -42,16 +42,18 @@ use Rattle.walks.specs.declared.Walk.the-variants.{On, Refused}
 use Rattle.shown.proofs.Keyed.{item-told}
 use Rattle.shown.proofs.Fronts.{front-told}
 use Rattle.shown.proofs.Formed.{Formed}
-use Rattle.walks.proofs.Walked.{Suits, over, walks-tests}
-use Rattle.history_rows.specs.Rows.{itemOn, itemAt, pathOn, placeAt, epochFrom, askVersion, askReplaced, askMarker, lack, row, lacks, ItemsStand}
-use Rattle.history.specs.Asks.{asks, answerOf}
-use Rattle.history_rows.proofs.Powers.{marked}
-use Rattle.history.proofs.Standing.{path-moves, item-moves, path-epoch, nth}
+use Rattle.walks.proofs.Walked.{path-moves, Suits, over, walks-tests}
+use Rattle.rows.specs.Rows.{itemOn, itemAt, placeAt, epochFrom, askVersion, askReplaced, askCurrent, askMarker, lack, row, lacks, ItemsStand}
+use Rattle.rows.specs.Order.{rowsAsk}
+use Rattle.rows.proofs.Cursors.{path-epoch}
+use Rattle.rows.proofs.Powers.{marked}
+use Rattle.history.specs.Walk.{rowsOf, walkOf, answerOf}
+use Rattle.history.proofs.Standing.{item-moves, nth}
 
 -- an answer is made of a walk
 answer-over : (n t : ℕ) (w : Walk) → answerOf n t w ≡ over H.Refused (H.Accepted n t) w
 answer-over n t (Refused m) = refl
-answer-over n t (On at d e) = refl
+answer-over n t (On d) = refl
 
 -- ---- rows
 
@@ -70,8 +72,12 @@ unfolding upFrom
 row-all P f a zero h = tt
 row-all P f a (suc k) h = (h a (omega arith) (omega arith), row-all P f (suc a) k (λ i l r. h i (omega arith) (omega arith)))
 
-pub asks-are : (s : Bytes) (first t n : ℕ) → map askedOf (asks s first t n) ≡ historyAsked n t
-unfolding asks
+-- all that the rows are asked
+abbrev asks : Bytes → ℕ → ℕ → ℕ → List Asked
+asks s first t n = rowsAsk s (rowsOf first n t)
+
+asks-are : (s : Bytes) (first t n : ℕ) → map askedOf (asks s first t n) ≡ historyAsked n t
+unfolding upFrom
 asks-are s first t zero = row-asked (λ j. lack (AsMarker j)) (λ j. missing (asMarker j)) (λ j. refl) 0 (markersBy t - 0)
 asks-are s first t (suc m) =
     let b = suc (log2 (suc m)) in
@@ -149,7 +155,7 @@ module _ (s : Bytes) (w : Bytewise s) (n t : ℕ) (front : frontAt 2 s ≡ F.Rea
   marker-suits j h = record { commitment = λ _. refl; epoch = λ _ e. epoch-window (2 ^ j) h e }
 
   asks-suit : (m : ℕ) → m ≡ n → All (Suits (historyTerms read)) (asks s start t m)
-  unfolding asks
+  unfolding upFrom
   asks-suit zero q = row-all _ (λ j. lack (AsMarker j)) 0 (markersBy t - 0) (λ j l r. lack-suits (historyTerms read) (AsMarker j))
   asks-suit (suc m) q =
       let P = Suits (historyTerms read) in
@@ -184,9 +190,9 @@ module _ (s : Bytes) (w : Bytewise s) (n t : ℕ) (front : frontAt 2 s ≡ F.Rea
   verdictAt name u =
       verdict H.Refused (H.Accepted n u (length (proofStrings plain name (historyAsked n u) read))) (pathTests plain name (headIn s) (historyTerms read) (historyAsked n u) (f .paths))
 
-  pub tested : (name : Bytes) → answerOf n t (walks s name (asks s start t n) (On start (n + 1) 0)) ≡ verdictAt name (headIn s .epoch)
+  pub tested : (name : Bytes) → answerOf n t (walkOf s name start n t) ≡ verdictAt name (headIn s .epoch)
   tested name =
-      answer-over n t (walks s name (asks s start t n) (On start (n + 1) 0))
-      ∙ walks-tests s name (historyTerms read) w H.Refused (H.Accepted n t) (asks s start t n) (f .paths) start (n + 1) 0 (f .room) (rw asks-length (f .walks)) (asks-suit n refl)
+      answer-over n t (walkOf s name start n t)
+      ∙ walks-tests s name (historyTerms read) w H.Refused (H.Accepted n t) (asks s start t n) (f .paths) start (n + 1) (f .room) (rw asks-length (f .walks)) (asks-suit n refl)
       ∙ rw (asks-are s start t n, strings-count name (historyAsked n t))
       (ap (verdictAt name) (front-told 2 s w n t front .epoch))

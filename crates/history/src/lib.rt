@@ -32,9 +32,14 @@ fn walk_paths(s: &[u8], name: &[u8], first: usize, n: u16, epoch: u32) -> Walk
         epoch,
         first,
     };
-    walk_rows(s, name, rows, Walk::On {
-        digests: n as u32 + 1,
-    })
+    walk_rows(
+        s,
+        name,
+        rows,
+        Walk::On {
+            digests: n as u32 + 1,
+        },
+    )
 }
 
 // "a history its n, each with the head's epoch and its digests". A path that was refused refuses here.

@@ -73,7 +73,7 @@ module _ (s : Bytes) (first t : ℕ) where
   -- ---- a history's rows
 
   pub versions-length : (n : ℕ) → length (historyRow s first t n 0) ≡ n
-  versions-length n = omega (arith, row-length (askVersion s first t) 1 (n + 1))
+  versions-length n = omega (arith, row-length (askVersion s first t) 1 (suc n))
 
   pub replaced-length : (n : ℕ) → length (historyRow s first t n 1) ≡ n - 1
   replaced-length n = row-length (askReplaced s first) 1 n
@@ -82,8 +82,8 @@ module _ (s : Bytes) (first t : ℕ) where
   current-length zero = refl
   current-length (suc m) = omega arith
 
-  pub after-length : (n : ℕ) → length (historyRow s first t n 3) ≡ 2 ^ markersOf n - (n + 1)
-  after-length n = row-length (λ i. lack (placeBy false i)) (n + 1) (2 ^ markersOf n)
+  pub after-length : (n : ℕ) → length (historyRow s first t n 3) ≡ 2 ^ markersOf n - suc n
+  after-length n = row-length (λ i. lack (placeBy false i)) (suc n) (2 ^ markersOf n)
 
   pub marked-length : (n : ℕ) → length (historyRow s first t n 4) ≡ markersOf n
   marked-length n = omega (arith, row-length (askMarker s first) 0 (markersOf n))

@@ -42,10 +42,10 @@ module _ (s : Bytes) (first t : ℕ) where
   -- "Versions 1 to n present in *all*. Versions 1 to n-1 present in *old*. If n > 0, n absent from *old*. With a = floor(log2 n): n+1 to
   -- 2^(a+1)-1 absent from *all*; markers 0 to a present; markers a+1 to min(9, floor(log2 T)) absent."
   abbrev pub historyRow : ℕ → ℕ → List Asked
-  historyRow n zero = row (askVersion s first t) 1 (n + 1)
+  historyRow n zero = row (askVersion s first t) 1 (suc n)
   historyRow n (suc zero) = row (askReplaced s first) 1 n
   historyRow n (suc (suc zero)) = askCurrent n
-  historyRow n (suc (suc (suc zero))) = lacks false (n + 1) (2 ^ markersOf n)
+  historyRow n (suc (suc (suc zero))) = lacks false (suc n) (2 ^ markersOf n)
   historyRow n (suc (suc (suc (suc zero)))) = row (askMarker s first) 0 (markersOf n)
   historyRow n (suc (suc (suc (suc (suc zero))))) = lacks true (markersOf n) (markersBy t)
   historyRow n (suc (suc (suc (suc (suc (suc i)))))) = []

@@ -14,7 +14,7 @@ use Rattle.shown.specs.declared.Front.the-variants as F
 use Rattle.names.proofs.Named.{name-short}
 use Rattle.shown.proofs.Fronts.{front-told}
 use Rattle.shown.proofs.Formed.{Formed, formed}
-use Rattle.history.specs.Asks.{answerOf}
+use Rattle.history.specs.Walk.{answerOf}
 use Rattle.history.proofs.Tested.{keys-stand}
 use Rattle.history.proofs.Checked.{head-unsized, name-refused, no-front, no-body, head-refused, answered}
 use Rattle.history.proofs.check_history.Statement.{statement}
@@ -112,6 +112,7 @@ walk-paths-requires c κs =
     let a = start i .args in
     let t = front-told 2 (a .proof .now) (bytes i) (n .number .given .0 .0) (n .number .given .0 .1 .0) (front n) in
     record {
+      bytes = bytes i;
       front = omega (arith, t .room);
       short = name-short (a .name .now) (named i);
       small = t .small;

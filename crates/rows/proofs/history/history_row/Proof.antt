@@ -1,8 +1,9 @@
 -- `rows::history::history_row`: the number of the row says which run of paths it is.
 use borrow.Author.Needs.{needs}
 use native.Mathlib.Omega.{arith}
+use native.Mathlib.Numerals.{add-one}
 use mathlib.Core.Path.{_≡_, sym, ap, ap₂, _∙_}
-use mathlib.Core.Bool.{true}
+use mathlib.Core.Bool.{true, false}
 use Prim.Native.Nat.{ℕ, _+_, _-_, _*_, _%_, _^_, _≤_, _<_}
 use Rattle.walks.specs.Walk.{walks}
 use Rattle.walks.specs.declared.Walk.{Walk}
@@ -98,7 +99,7 @@ returns c =
     let a = b .args in
     let r = a .rows in
     at-row (m .before) 0 _ (m .match .keys1)
-    (c .versions .ensures ∙ ap (λ f. walks (a .s .now) (a .name .now) (row (askVersion (a .s .now) f (r .epoch)) 1 (r .number + 1)) (a .at) (a .walk)) (b .pre .start (m .match .keys1)))
+    (c .versions .ensures ∙ ap₂ (λ f k. walks (a .s .now) (a .name .now) (row (askVersion (a .s .now) f (r .epoch)) 1 k) (a .at) (a .walk)) (b .pre .start (m .match .keys1)) (add-one (r .number)))
 
 returns-2 : tie.Need-returns-2
 returns-2 c = at-row (c .before .before) 1 _ (c .before .match .keys2) (c .replaced .ensures)
@@ -110,7 +111,8 @@ returns-4 : tie.Need-returns-4
 returns-4 c =
     let m = c .before in
     let a = start (m .before .before) .args in
-    at-row (m .before) 3 _ (m .match .keys4) (c .absent .ensures ∙ rw (powered (m .before)))
+    at-row (m .before) 3 _ (m .match .keys4)
+    (c .absent .ensures ∙ ap₂ (λ j k. walks (a .s .now) (a .name .now) (lacks false j k) (a .at) (a .walk)) (add-one (a .rows .number)) (powered (m .before)))
 
 returns-5 : tie.Need-returns-5
 returns-5 c =
