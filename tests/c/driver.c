@@ -1,6 +1,7 @@
 /*
  * The driver's requests (docs/DRIVER.md) put through the archive, from C: calls 1, 4 to 6 and 10 to 14, whose functions the archive has.
- * Any other request, and one that is not readable, is answered `bad`. Memory that a refusal has to leave alone is compared afterwards.
+ * Any other request, and one that is not readable, is answered `bad`. Memory that a refusal has to leave alone is compared afterwards. No
+ * bytes are lent as NULL.
  */
 #include "noonhaggle.h"
 
@@ -37,7 +38,7 @@ static int split(size_t n) {
     while (at < n && k < FIELDS) {
         if (n - at < 4 || n - at - 4 < number(request + at)) return -1;
         length[k] = number(request + at);
-        field[k] = request + at + 4;
+        field[k] = length[k] == 0 ? NULL : request + at + 4;
         at += 4 + length[k++];
     }
     return at == n ? k : -1;
@@ -97,10 +98,11 @@ static void publish(size_t n) {
 }
 
 static struct noonhaggle_written write_proof(int call, uint32_t count, uint32_t epoch, size_t room) {
-    if (call == 14) return noonhaggle_write_audit(field[0], length[0], field[1], length[1], count, epoch, number(field[4]), out, room);
+    uint8_t *to = room == 0 ? NULL : out;
+    if (call == 14) return noonhaggle_write_audit(field[0], length[0], field[1], length[1], count, epoch, number(field[4]), to, room);
     uint32_t at = number(field[5]);
-    if (call == 12) return noonhaggle_write_lookup(field[0], length[0], field[1], length[1], count, epoch, field[4], length[4], at, out, room);
-    return noonhaggle_write_history(field[0], length[0], field[1], length[1], count, epoch, field[4], length[4], at, out, room);
+    if (call == 12) return noonhaggle_write_lookup(field[0], length[0], field[1], length[1], count, epoch, field[4], length[4], at, to, room);
+    return noonhaggle_write_history(field[0], length[0], field[1], length[1], count, epoch, field[4], length[4], at, to, room);
 }
 
 /* the output holds a pattern before, of which nothing may change on a refusal, and on success only the proof's bytes */
