@@ -1,6 +1,6 @@
 //! Trees as a server that lies would have them, under heads of its own. The independent implementation hashes whatever it is told to.
 use independent::plan::{history_plan, lookup_plan, Asked, Which};
-use independent::strings::{self, label, Digest};
+use independent::strings::{self, label, Digest, VERSION, ZERO};
 use independent::table::{counted, leaves};
 use independent::tree::{Leaf, Tree};
 
@@ -41,8 +41,14 @@ impl Trees {
         strings::head(&self.opened())
     }
 
+    /// A new leaf of *all*.
     pub fn add(&mut self, kind: u8, number: u16, name: &[u8], commitment: Digest) {
         self.all.push(Leaf { label: label(kind, number, name), commitment, epoch: self.epoch });
+    }
+
+    /// A new leaf of *old*.
+    pub fn replace(&mut self, version: u16, name: &[u8]) {
+        self.old.push(Leaf { label: label(VERSION, version, name), commitment: ZERO, epoch: self.epoch });
     }
 
     /// A lookup or history: its kind, number and keys, and a path for all that is asked.

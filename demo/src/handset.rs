@@ -63,8 +63,11 @@ pub fn auditor(from: &[u8], steps: &[(Vec<u8>, Vec<u8>)]) -> Said {
     Said { text: format!("accepted from epoch {}", epochs.join(", ")), fine: true }
 }
 
-/// The owner of a name, who is shown its history and compares the keys in it with those that are its own, oldest first.
-pub fn owner(head: &[u8], name: &[u8], own: &[String], proof: &[u8]) -> Vec<Said> {
+/// What an owner remembers of its own: the epoch in which each key was published, and the key, oldest first.
+pub type Own = Vec<(u32, String)>;
+
+/// The owner of a name, who is shown its history and compares keys and epochs in it with its own.
+pub fn owner(head: &[u8], name: &[u8], own: &Own, proof: &[u8]) -> Vec<Said> {
     let (history, told) = match read_history(head, name, proof) {
         Ok(accepted) => accepted,
         Err(refusal) => return vec![Said::refused(refusal)],
@@ -72,11 +75,14 @@ pub fn owner(head: &[u8], name: &[u8], own: &[String], proof: &[u8]) -> Vec<Said
     let text = format!("accepted at epoch {} (versions: {}, digests: {})", history.epoch, history.versions, history.digests);
     let mut said = vec![Said { text, fine: true }];
     for (i, version) in told.iter().enumerate() {
-        let mine = own.get(i).is_some_and(|key| key.as_bytes() == version.key);
-        let whose = if mine { "mine" } else { "NOT MINE" };
-        said.push(Said { text: format!("version {}, since epoch {}: {} is {whose}", version.version, version.epoch, quoted(version.key)), fine: mine });
+        let (whose, fine) = match own.get(i) {
+            Some((epoch, key)) if key.as_bytes() == version.key && *epoch == version.epoch => ("mine".into(), true),
+            Some((epoch, key)) if key.as_bytes() == version.key => (format!("mine, BUT SINCE EPOCH {epoch}"), false),
+            _ => ("NOT MINE".into(), false),
+        };
+        said.push(Said { text: format!("version {}, since epoch {}: {} is {whose}", version.version, version.epoch, quoted(version.key)), fine });
     }
-    for key in own.iter().skip(told.len()) {
+    for (_, key) in own.iter().skip(told.len()) {
         said.push(Said { text: format!("{} is MISSING", quoted(key.as_bytes())), fine: false });
     }
     said

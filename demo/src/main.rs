@@ -11,7 +11,7 @@ mod handset;
 use std::fs;
 
 use directory::Directory;
-use handset::{current_text, epoch_of, given, Said};
+use handset::{current_text, epoch_of, given, Own, Said};
 use noonhaggle::{check_audit, check_lookup, current_at, read_history, Lookup, Refusal};
 
 const IDA: &[u8] = b"ida@north";
@@ -24,6 +24,11 @@ const FINDER: &str = "whoever found bo's handset";
 /// The key of someone's first or second handset.
 fn handset_key(name: &[u8], handset: u16) -> String {
     format!("{}, handset {handset}", String::from_utf8_lossy(name))
+}
+
+/// What bo remembers: the first handset's key is of epoch 1, and the second's of epoch 4.
+fn own_keys() -> Own {
+    vec![(1, handset_key(BO, 1)), (4, handset_key(BO, 2))]
 }
 
 fn published() -> Directory {
@@ -53,8 +58,8 @@ fn checked(d: &Directory) {
     for (name, epoch) in [(IDA, 4), (BO, 3), (BO, 4), (CREW[6], 1)] {
         println!("  {}", arrow(name, check_lookup(d.head(epoch), name, &d.lookup(name, epoch)).expect("accepted")));
     }
-    println!("\nWhat bo's own handset checks from time to time: that the directory has bo's keys, and no others");
-    let said = handset::owner(d.head(4), BO, &[handset_key(BO, 1), handset_key(BO, 2)], &d.history(BO, 4));
+    println!("\nWhat bo's own handset checks from time to time: that the directory has bo's keys, since when bo has them, and no others");
+    let said = handset::owner(d.head(4), BO, &own_keys(), &d.history(BO, 4));
     said.iter().for_each(|said| println!("  {}", said.text));
     assert!(said.iter().all(|said| said.fine), "bo's keys are not in bo's history");
     println!("\nWhat an auditor checks: nothing that was there is gone or changed");
@@ -86,7 +91,7 @@ fn lied_to(d: &Directory) {
         lie.said.iter().for_each(|(who, said)| println!("      {who}: {}", said.text));
         assert!(lie.said.iter().all(|(_, said)| !said.fine), "a lie was believed");
     }
-    println!("\nA server that lies under a head of its own: a friend and an auditor accept it, and bo's own handset does not");
+    println!("\nA server that lies under heads of its own: a friend and an auditor accept, and bo's own handset sees it");
     for lie in believed::lies(d) {
         println!("  {}", lie.tale);
         lie.taken_in.iter().for_each(|(who, said)| println!("      {who}: {}", said.text));
