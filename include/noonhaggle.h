@@ -60,7 +60,8 @@ struct noonhaggle_lookup noonhaggle_check_lookup(
     const uint8_t *name, size_t name_length,
     const uint8_t *proof, size_t proof_length);
 
-/* A history: how many versions the name has by the head's epoch. On a refusal all else is 0. */
+/* A history: how many versions the name has by the head's epoch. On a refusal all else is 0. Their keys, openings and epochs are read from the
+ * accepted proof, by document 01's layout. */
 struct noonhaggle_history {
     uint32_t number;
     uint32_t versions;

@@ -1,11 +1,11 @@
-"""How a program of the repository is run, and what its caller sees: exit status, standard output, standard error. The status is None of a run
-that did not end by itself."""
+"""How a program of the repository is run, and what its caller sees: exit status, standard output, standard error. One that hangs is killed."""
 import array
 import fcntl
 import os
 import platform
 import subprocess
 import termios
+import threading
 import time
 
 ROOT = os.path.dirname(os.path.dirname(os.path.abspath(__file__)))
@@ -37,10 +37,10 @@ def ended(run, data=None):
     """What is seen of a run, which is handed these bytes through its pipe."""
     try:
         out, err = run.communicate(data, timeout=PATIENCE)
-        return run.returncode, out, err
     except subprocess.TimeoutExpired:
         run.kill()
-        return None, *run.communicate()
+        out, err = run.communicate()
+    return run.returncode, out, err
 
 
 def piped(words, data):
@@ -50,8 +50,8 @@ def piped(words, data):
 
 def taken(run):
     """Waits until the run has taken what is in its pipe, or has ended."""
-    left, late = array.array("i", [1]), time.monotonic() + PATIENCE
-    while left[0] and run.poll() is None and time.monotonic() < late:
+    left = array.array("i", [1])
+    while left[0] and run.poll() is None:
         time.sleep(0.001)
         fcntl.ioctl(run.stdin, termios.FIONREAD, left)
 
@@ -59,10 +59,14 @@ def taken(run):
 def in_pieces(words, pieces):
     """The same in pieces, of which each goes when the one before has been taken: so no read gives more than a piece."""
     run = started(words)
+    late = threading.Timer(PATIENCE, run.kill)
+    late.start()
     try:
         for piece in pieces:
             run.stdin.write(piece)
             taken(run)
     except BrokenPipeError:
-        pass  # the program has read all that it reads
-    return ended(run)
+        pass  # the program has read all that it reads, or was killed
+    seen = ended(run)
+    late.cancel()
+    return seen

@@ -1,7 +1,7 @@
 #!/usr/bin/env python3
 """Puts requests through C programs that are linked with the archive (tests/c/run builds them), and holds what they print to what other
 implementations say: to tests/c/driver.c the driver's own sample, as far as the archive has its calls, proofs of a larger directory, and
-requests of which any slices are empty, which it lends as NULL; to tests/c/check.c the checking program's cases, and the accepted key. `kit`
+requests of which some slices are empty, which it lends as NULL; to tests/c/check.c the checking program's cases, and the accepted key. `kit`
 runs the programs that the kit's compiler made, `native` those of the machine's own, and `aarch64` those for Arm, under an emulator."""
 import itertools
 import os
@@ -70,13 +70,13 @@ def seen_apart(given):
 
 
 def emptied(request):
-    """The request with any of its slices empty, in every way. A writer's output is a slice too, of as many bytes as its last field says."""
+    """The request with some of its slices empty, in every way. A writer's output is a slice too, of as many bytes as its last field says."""
     kinds = driver.CALLS[plain_driver.BY_NUMBER[request[4]]][1]
     found = plain_driver.fields(request[5:])
     slices = [i for i, kind in enumerate(kinds) if kind == driver.BYTES] + [len(kinds) - 1] * (request[4] in WRITERS)
-    for kept in itertools.product((False, True), repeat=len(slices)):
-        gone = {i for i, keep in zip(slices, kept) if not keep}
-        yield driver.request(request[4], [f if i not in gone else b"" if kinds[i] == driver.BYTES else bytes(4) for i, f in enumerate(found)])
+    for many in range(1, len(slices) + 1):
+        for gone in itertools.combinations(slices, many):
+            yield driver.request(request[4], [f if i not in gone else b"" if kinds[i] == driver.BYTES else bytes(4) for i, f in enumerate(found)])
 
 
 def with_empty(given):
