@@ -202,3 +202,12 @@ pub fn update(name: &[u8], key: &[u8], opening: &[u8; 32]) -> [u8; 162] {
     u[130..].copy_from_slice(opening);
     u
 }
+
+#[cfg(test)]
+mod tests {
+    #[test]
+    fn each_number_has_its_name() {
+        assert_eq!(super::unless(0), Ok(()));
+        assert!((1..=11).all(|n| super::unless(n).is_err_and(|refusal| u32::from(refusal.number()) == n)));
+    }
+}

@@ -5,11 +5,13 @@ requests of which some slices are empty, which it lends as NULL; to tests/c/chec
 runs the programs that the kit's compiler made, `native` those of the machine's own, and `aarch64` those for Arm, under an emulator."""
 import itertools
 import os
+import re
 import subprocess
 import sys
 
 sys.dont_write_bytecode = True
 sys.path.insert(0, os.path.join(os.path.dirname(os.path.abspath(__file__)), ".."))
+import answer
 import cases
 import driver
 import plain_driver
@@ -101,14 +103,25 @@ def interface():
     return len(lines) == len(asked) and not wrong and seen == sorted(CALLS) and seen_apart(given)
 
 
+def numbers():
+    """Whether the header, and the Rust crate over it, give document 01's numbers their names."""
+    expected = {name: getattr(answer, name) for name in "INPUT FORM HEAD ROOT RULE FULL CLASH ROOM TWICE EPOCH TABLE".split()}
+    found = []
+    for file, pattern in ("include/noonhaggle.h", r"NOONHAGGLE_([A-Z]+) = (\d+)"), ("rust/src/lib.rs", r"(?m)^    ([A-Z][a-z]+) = (\d+),$"):
+        text = open(os.path.join(runs.ROOT, file)).read()
+        found.append({name.upper(): int(number) for name, number in re.findall(pattern, text)})
+    print(f"the numbers that say no: {'as document 01 has them' if found == [expected] * 2 else found}")
+    return found == [expected] * 2
+
+
 def checking():
     count = good = 0
-    for call, fields, answer in cases.cases():
+    for call, fields, said in cases.cases():
         if call != "program":
             continue
         (stdin,) = fields
         lines = subprocess.run(command("check"), input=stdin, capture_output=True, check=True).stdout.decode().split("\n")[:-1]
-        expected = [answer.rstrip("\n")]
+        expected = [said]
         if expected[0].startswith("version"):
             proof = stdin[33 + stdin[32] :]
             expected.append(proof[109 : 109 + proof[108]].hex() if not expected[0].startswith("version 0 ") else "")
@@ -120,4 +133,5 @@ def checking():
 
 ok = interface()
 ok = checking() and ok
+ok = numbers() and ok
 sys.exit(0 if ok else 1)
