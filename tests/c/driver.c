@@ -44,6 +44,13 @@ static int split(size_t n) {
     return at == n ? k : -1;
 }
 
+/* whether the fields from one to before another are numbers of 4 bytes */
+static int numbers(int from, int to) {
+    for (int k = from; k < to; k++)
+        if (length[k] != 4) return 0;
+    return 1;
+}
+
 static void print_bytes(const uint8_t *p, size_t n) {
     if (n == 0) printf("-");
     for (size_t i = 0; i < n; i++) printf("%02x", p[i]);
@@ -139,9 +146,9 @@ static void answer(int call, int fields, size_t n) {
     else if (call == 5 && fields == 3) history();
     else if (call == 6 && fields == 3) audit();
     else if (call == 10 && fields == 1) start(n);
-    else if (call == 11 && fields == 5) publish(n);
-    else if ((call == 12 || call == 13) && fields == 7) writer(call, fields, n);
-    else if (call == 14 && fields == 6) writer(call, fields, n);
+    else if (call == 11 && fields == 5 && numbers(2, 4)) publish(n);
+    else if ((call == 12 || call == 13) && fields == 7 && numbers(2, 4) && numbers(5, 7)) writer(call, fields, n);
+    else if (call == 14 && fields == 6 && numbers(2, 6)) writer(call, fields, n);
     else printf("bad\n");
 }
 
