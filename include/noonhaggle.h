@@ -6,11 +6,12 @@
  *
  * What no proof covers, and the caller has to see to:
  *  - Pointers: each points at as many bytes as the length behind it says, readable, and writable where it is not const. With length 0 it
- *    is still not NULL (any valid address will do).
+ *    may be NULL, or any other address: nothing is read or written there. That is an empty argument, which is answered as such.
  *  - No overlap: memory that a call may write to overlaps no other memory that is lent to that call, and nobody else reads or writes it
  *    during the call. Memory that is only read may overlap.
  *  - Stack: docs/SIZES.md says how much each function takes. A checker takes little; publish and the writers take megabytes.
- *  - The compiler's back end, this header, and that the machine has 64-bit addresses; on Arm also what tools/archive says of it.
+ *  - The compiler's back end, and this header: at its end the compiler is asked whether each field lies where the archive has it, which
+ *    wants 64-bit addresses. On Arm also what tools/archive says of it.
  *
  * Functions keep nothing between calls, so they may be called from several threads at once over different memory.
  */
@@ -59,7 +60,8 @@ struct noonhaggle_lookup noonhaggle_check_lookup(
     const uint8_t *name, size_t name_length,
     const uint8_t *proof, size_t proof_length);
 
-/* A history: how many versions the name has by the head's epoch. On a refusal all else is 0. */
+/* A history: how many versions the name has by the head's epoch. On a refusal all else is 0. Their keys, openings and epochs are read from the
+ * accepted proof, by document 01's layout. */
 struct noonhaggle_history {
     uint32_t number;
     uint32_t versions;
@@ -147,6 +149,57 @@ struct noonhaggle_written noonhaggle_write_audit(
     uint32_t count, uint32_t epoch,
     uint32_t at,
     uint8_t *out, size_t out_length);
+
+/*
+ * Where each field of an answer lies. No proof speaks of this, so the compiler is asked, by the languages that can be (C11, C++11).
+ */
+#if defined(__cplusplus) && __cplusplus >= 201103L
+#define NOONHAGGLE_HOLDS(fact) static_assert(fact, #fact)
+#elif defined(__STDC_VERSION__) && __STDC_VERSION__ >= 201112L
+#define NOONHAGGLE_HOLDS(fact) _Static_assert(fact, #fact)
+#endif
+
+#ifdef NOONHAGGLE_HOLDS
+#define NOONHAGGLE_AT(type, field, place, size) \
+    NOONHAGGLE_HOLDS(offsetof(struct type, field) == place && sizeof(((struct type *)0)->field) == size)
+
+NOONHAGGLE_AT(noonhaggle_lookup, number, 0, 4);
+NOONHAGGLE_AT(noonhaggle_lookup, version, 4, 4);
+NOONHAGGLE_AT(noonhaggle_lookup, epoch, 8, 4);
+NOONHAGGLE_AT(noonhaggle_lookup, digests, 12, 4);
+NOONHAGGLE_AT(noonhaggle_lookup, key_start, 16, 8);
+NOONHAGGLE_AT(noonhaggle_lookup, key_length, 24, 8);
+NOONHAGGLE_HOLDS(sizeof(struct noonhaggle_lookup) == 32);
+
+NOONHAGGLE_AT(noonhaggle_history, number, 0, 4);
+NOONHAGGLE_AT(noonhaggle_history, versions, 4, 4);
+NOONHAGGLE_AT(noonhaggle_history, epoch, 8, 4);
+NOONHAGGLE_AT(noonhaggle_history, digests, 12, 4);
+NOONHAGGLE_HOLDS(sizeof(struct noonhaggle_history) == 16);
+
+NOONHAGGLE_AT(noonhaggle_audit, number, 0, 4);
+NOONHAGGLE_AT(noonhaggle_audit, old_epoch, 4, 4);
+NOONHAGGLE_AT(noonhaggle_audit, new_epoch, 8, 4);
+NOONHAGGLE_AT(noonhaggle_audit, digests, 12, 4);
+NOONHAGGLE_HOLDS(sizeof(struct noonhaggle_audit) == 16);
+
+NOONHAGGLE_AT(noonhaggle_digest, bytes, 0, 32);
+NOONHAGGLE_HOLDS(sizeof(struct noonhaggle_digest) == 32);
+
+NOONHAGGLE_AT(noonhaggle_published, number, 0, 4);
+NOONHAGGLE_AT(noonhaggle_published, count, 4, 4);
+NOONHAGGLE_AT(noonhaggle_published, epoch, 8, 4);
+NOONHAGGLE_HOLDS(sizeof(struct noonhaggle_published) == 12);
+
+NOONHAGGLE_AT(noonhaggle_written, number, 0, 4);
+NOONHAGGLE_AT(noonhaggle_written, count, 4, 4);
+NOONHAGGLE_AT(noonhaggle_written, epoch, 8, 4);
+NOONHAGGLE_AT(noonhaggle_written, length, 16, 8);
+NOONHAGGLE_HOLDS(sizeof(struct noonhaggle_written) == 24);
+
+#undef NOONHAGGLE_AT
+#undef NOONHAGGLE_HOLDS
+#endif
 
 #ifdef __cplusplus
 }

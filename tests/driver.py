@@ -1,10 +1,9 @@
 """Requests to the driver program: docs/DRIVER.md has the format. It is built by `rt check driver`."""
-import os
-import platform
 import subprocess
 
-ROOT = os.path.dirname(os.path.dirname(os.path.abspath(__file__)))
-PROGRAM = os.path.join(ROOT, "target", "bin", "driver")
+import runs
+
+PROGRAM = runs.built("driver")
 
 BYTES = 0  # a field of bytes; any other kind of field is a number of so many bytes
 
@@ -44,14 +43,7 @@ def call_request(call, values):
 
 
 def command():
-    """How `rt` runs a program: with the kit's loader and C library, and its emulator where the machine is no x86-64."""
-    guide = subprocess.run(["rt", "doc"], capture_output=True, text=True, check=True).stdout.strip()
-    kit = os.path.dirname(os.path.dirname(guide))
-    tools = os.path.join(kit, "on", platform.machine(), "toolchain")
-    emulator = os.path.join(tools, "bin", "qemu-x86_64")
-    loader = os.path.join(tools, "lib", "ld-linux-x86-64.so.2")
-    run = [loader, "--library-path", os.path.join(tools, "lib"), PROGRAM]
-    return [emulator] + run if os.access(emulator, os.X_OK) else run
+    return runs.command(PROGRAM)
 
 
 def answers(requests):

@@ -12,24 +12,7 @@ sys.dont_write_bytecode = True
 import cases
 import server_cases
 from driver import CALLS, be, call_request, request
-
-
-def first_difference(a, b):
-    """The first bit at which the labels differ; the end of the shorter one where they differ nowhere."""
-    n = 8 * min(len(a), len(b), 32)
-    x, y = ("".join(f"{byte:08b}" for byte in s)[:n] for s in (a, b))
-    return next((i for i in range(n) if x[i] != y[i]), n)
-
-
-def history_paths(n, epoch):
-    """Document 01's list, part by part."""
-    most = min(10, epoch.bit_length())
-    if n == 0:
-        return most
-    a = n.bit_length() - 1
-    versions, old, last = n, n - 1, 1
-    gap = len(range(n + 1, 2 ** (a + 1)))
-    return versions + old + last + gap + (a + 1) + len(range(a + 1, most))
+from plain_driver import first_difference, history_paths
 
 
 def sha256_case(data):

@@ -1,122 +1,45 @@
-//! What a server that lies may try: the near misses of document 01, and plainer lies. It builds whatever trees it likes and hashes them well.
-use independent::plan::{history_plan, lookup_plan, Asked, Which};
-use independent::strings::{self, commitment, label, Digest, MARKER, VERSION, ZERO};
-use independent::table::{counted, leaves};
-use independent::tree::{Item, Leaf, Nodes, Tree};
-use noonhaggle::{check_audit, check_history, check_lookup, Refusal};
+//! What a server that lies may try: the near misses of document 01, and plainer lies. Whoever is shown one of these sees it at once.
+use independent::plan::Which;
+use independent::strings::{self, commitment, label, Digest, VERSION, ZERO};
+use independent::tree::{Item, Nodes};
 
 use crate::directory::{opening, Directory};
-use crate::{BO, IDA};
+use crate::forged::Trees;
+use crate::handset::{auditor, friend, Said};
+use crate::{handset_key, BO, FINDER, IDA};
 
+/// A lie: what is tried, who is shown it, and what that one says.
 pub struct Lie {
     pub tale: &'static str,
-    pub told: String,
-    pub believed: bool,
+    pub said: Vec<(&'static str, Said)>,
 }
 
-fn lie<T: std::fmt::Debug>(tale: &'static str, who: &str, answer: Result<T, Refusal>) -> Lie {
-    let (told, believed) = match answer {
-        Ok(answer) => (format!("{who}: ACCEPTED {answer:?}"), true),
-        Err(refusal) => (format!("{who}: {refusal}"), false),
-    };
-    Lie { tale, told, believed }
+fn to_friend(tale: &'static str, head: &[u8], name: &[u8], proof: &[u8]) -> Lie {
+    Lie { tale, said: vec![("a friend's handset", friend(head, name, proof))] }
 }
 
-/// Trees as the server would have them.
-#[derive(Clone)]
-struct Trees {
-    all: Vec<Leaf>,
-    old: Vec<Leaf>,
-    epoch: u32,
-    previous: Digest,
-}
-
-impl Trees {
-    /// Those of the directory's current epoch.
-    fn honest(d: &Directory) -> Trees {
-        let state = independent::State { count: d.state.count, epoch: d.state.epoch };
-        let (all, old) = leaves(counted(&d.records, state));
-        Trees { all, old, epoch: state.epoch, previous: d.head(state.epoch - 1).try_into().unwrap() }
-    }
-
-    fn tree(&self, which: Which) -> Tree {
-        Tree::grow(if which == Which::All { self.all.clone() } else { self.old.clone() }).unwrap_or_else(|n| panic!("refused {n}"))
-    }
-
-    fn opened(&self) -> [u8; 100] {
-        strings::opening(self.epoch, &self.previous, &self.tree(Which::All).root(), &self.tree(Which::Old).root())
-    }
-
-    fn head(&self) -> Digest {
-        strings::head(&self.opened())
-    }
-
-    /// A lookup or history: its kind, number and keys, and a path for all that is asked.
-    fn proof(&self, kind: u8, number: u16, keys: &[String], name: &[u8], asked: Vec<Asked>) -> Vec<u8> {
-        let mut out = b"VKD\x00\x01".to_vec();
-        out.push(kind);
-        out.extend(self.opened());
-        out.extend(number.to_be_bytes());
-        for key in keys {
-            out.push(key.len() as u8);
-            out.extend(key.as_bytes());
-            out.extend(opening(key));
-        }
-        for a in asked {
-            self.tree(a.tree).path(&a.label(name), &mut out);
-        }
-        out
-    }
-
-    fn lookup(&self, name: &[u8], version: u16, key: &str) -> Vec<u8> {
-        self.proof(1, version, &[key.to_string()], name, lookup_plan(version))
-    }
-
-    fn history(&self, name: &[u8], keys: &[String]) -> Vec<u8> {
-        self.proof(2, keys.len() as u16, keys, name, history_plan(keys.len() as u16, self.epoch))
-    }
-
-    fn add(&mut self, kind: u8, number: u16, name: &[u8], commitment: Digest) {
-        self.all.push(Leaf { label: label(kind, number, name), commitment, epoch: self.epoch });
-    }
-}
-
-fn key(handset: u16) -> String {
-    format!("bo@north, handset {handset}")
-}
-
-fn finder() -> String {
-    "whoever found bo's handset".into()
+fn to_auditor(tale: &'static str, old_head: &[u8], (head, proof): (Digest, Vec<u8>)) -> Lie {
+    Lie { tale, said: vec![("an auditor", auditor(old_head, &[(head.to_vec(), proof)]))] }
 }
 
 /// The replaced key once more.
 fn replaced(d: &Directory) -> Vec<Lie> {
-    let honest = Trees::honest(d);
-    let mut silent = honest.clone();
-    silent.old.clear();
     vec![
-        lie("It shows bo's replaced key under the current head.", "a friend's handset", check_lookup(d.head(4), BO, &honest.lookup(BO, 1, &key(1)))),
-        lie("It shows yesterday's lookup of bo.", "a friend's handset", check_lookup(d.head(4), BO, &d.lookup(BO, 3))),
-        lie("It keeps silent about the replacement, under another head.", "bo's own handset", check_history(&silent.head(), BO, &silent.history(BO, &[key(1), key(2)]))),
+        to_friend("It shows bo's replaced key under the current head.", d.head(4), BO, &Trees::honest(d, 4).lookup(BO, 1, &handset_key(BO, 1))),
+        to_friend("It shows yesterday's lookup of bo.", d.head(4), BO, &d.lookup(BO, 3)),
     ]
 }
 
 /// "A lookup without its marker, so that version 8 hides beyond a history of 3."
-fn hidden(d: &Directory) -> Vec<Lie> {
-    let mut bare = Trees::honest(d);
-    bare.epoch += 4;
-    bare.add(VERSION, 8, BO, commitment(&opening(&finder()), finder().as_bytes()));
-    let mut marked = bare.clone();
-    marked.add(MARKER, 3, BO, ZERO);
-    vec![
-        lie("It hides a version 8 of bo beyond the history, with no marker.", "a friend's handset", check_lookup(&bare.head(), BO, &bare.lookup(BO, 8, &finder()))),
-        lie("It adds the marker too.", "bo's own handset", check_history(&marked.head(), BO, &marked.history(BO, &[key(1), key(2)]))),
-    ]
+fn unmarked(d: &Directory) -> Vec<Lie> {
+    let mut bare = Trees::honest(d, 4).next().next().next().next();
+    bare.add(VERSION, 8, BO, commitment(&opening(FINDER), FINDER.as_bytes()));
+    vec![to_friend("It hides a version 8 of bo, with no marker, under a head of its own.", &bare.head(), BO, &bare.lookup(BO, 8, FINDER))]
 }
 
 /// "The sibling hashed on the right when the label's bit is 1", and "zero bytes as the digest of nothing".
 fn hashed_otherwise(d: &Directory) -> Vec<Lie> {
-    let honest = Trees::honest(d);
+    let honest = Trees::honest(d, 4);
     let tree = honest.tree(Which::All);
     let [left, right] = tree.nodes[tree.nodes.len() - 1].digests;
     let name = *crate::CREW.iter().find(|n| label(VERSION, 1, n)[0] >= 0x80).expect("a label that begins with 1");
@@ -130,8 +53,8 @@ fn hashed_otherwise(d: &Directory) -> Vec<Lie> {
     none.extend(ZERO);
     none.push(3);
     vec![
-        lie("It exchanges left and right at the root.", "a friend's handset", check_lookup(&strings::head(&exchanged), name, &proof)),
-        lie("It takes zero bytes for the digest of nothing.", "a friend's handset", check_lookup(&strings::head(&empty), IDA, &none)),
+        to_friend("It exchanges left and right at the root.", &strings::head(&exchanged), name, &proof),
+        to_friend("It takes zero bytes for the digest of nothing.", &strings::head(&empty), IDA, &none),
     ]
 }
 
@@ -169,14 +92,12 @@ fn audited(d: &Directory) -> Vec<Lie> {
     let mut moved = d.audit(4);
     let at = *records(&moved).iter().find(|&&at| moved[at] == 1).expect("an unchanged subtree");
     moved[at + 2] += 1;
-    let (moved_head, moved) = rehashed(moved);
     let mut early = d.audit(4);
     let at = *records(&early).iter().find(|&&at| early[at] == 2).expect("a new leaf");
     early[at + 67..at + 71].copy_from_slice(&3u32.to_be_bytes());
-    let (early_head, early) = rehashed(early);
     vec![
-        lie("It claims another prefix for an unchanged subtree, to hide a label.", "an auditor", check_audit(d.head(3), &moved_head, &moved)),
-        lie("It adds a leaf that claims to be older than it is.", "an auditor", check_audit(d.head(3), &early_head, &early)),
+        to_auditor("It claims another prefix for an unchanged subtree, to hide a label.", d.head(3), rehashed(moved)),
+        to_auditor("It adds a leaf that claims to be older than it is.", d.head(3), rehashed(early)),
     ]
 }
 
@@ -184,11 +105,11 @@ fn audited(d: &Directory) -> Vec<Lie> {
 fn broken(d: &Directory) -> Vec<Lie> {
     let proof = d.lookup(BO, 4);
     vec![
-        lie("The radio cuts a proof short.", "a friend's handset", check_lookup(d.head(4), BO, &proof[..proof.len() - 1])),
-        lie("A name has a blank in it.", "a friend's handset", check_lookup(d.head(4), b"bo north", &proof)),
+        to_friend("The radio cuts a proof short.", d.head(4), BO, &proof[..proof.len() - 1]),
+        to_friend("A name has a blank in it.", d.head(4), b"bo north", &proof),
     ]
 }
 
 pub fn lies(d: &Directory) -> Vec<Lie> {
-    [replaced(d), hidden(d), hashed_otherwise(d), audited(d), broken(d)].into_iter().flatten().collect()
+    [replaced(d), unmarked(d), hashed_otherwise(d), audited(d), broken(d)].into_iter().flatten().collect()
 }

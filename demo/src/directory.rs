@@ -20,7 +20,7 @@ impl Directory {
     pub fn started() -> Directory {
         let mut heads = vec![0; 32 * 16];
         let state = start(&mut heads).expect("started");
-        println!("  epoch 0, head {}..: started", short(&heads));
+        println!("  epoch {}, head {}..: started", state.epoch, short(&heads));
         Directory { records: vec![0; 168 * 64], heads, state }
     }
 

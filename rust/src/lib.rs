@@ -2,7 +2,7 @@
 //!
 //! A handset needs [`check_lookup`], [`check_history`] and [`check_audit`]; a server [`start`], [`publish`] and the three writers. Every function
 //! takes any bytes, ends, and answers or refuses by name; a refusal has written to nothing. The proofs are about the functions behind these;
-//! this crate only hands slices over and names the numbers that come back.
+//! this crate only hands slices over and names the numbers that come back, and [`read_history`] reads keys and epochs out of an accepted history.
 //!
 //! [`publish`] takes 1.3 MB of stack and a writer 2.4 MB, more than a thread of Rust's has by default: give a thread that calls them 4 MiB
 //! ([`std::thread::Builder::stack_size`]). A checker takes 104 KB at most.
@@ -29,8 +29,11 @@
 //! # Ok::<(), Refusal>(())
 //! ```
 mod raw;
+mod told;
 
 use std::fmt;
+
+pub use told::{current_at, read_history, Told};
 
 /// Why a function said no: document 01's numbers by name.
 #[derive(Clone, Copy, Debug, PartialEq, Eq, Hash)]
@@ -198,4 +201,13 @@ pub fn update(name: &[u8], key: &[u8], opening: &[u8; 32]) -> [u8; 162] {
     u[66..66 + key.len()].copy_from_slice(key);
     u[130..].copy_from_slice(opening);
     u
+}
+
+#[cfg(test)]
+mod tests {
+    #[test]
+    fn each_number_has_its_name() {
+        assert_eq!(super::unless(0), Ok(()));
+        assert!((1..=11).all(|n| super::unless(n).is_err_and(|refusal| u32::from(refusal.number()) == n)));
+    }
 }

@@ -45,6 +45,20 @@ pub struct Written {
     pub length: usize,
 }
 
+/// Where each field lies: the places of the header, which the archive has.
+macro_rules! laid_out {
+    ($type:ident, $($field:ident $place:literal)*, $size:literal) => {
+        const _: () = assert!($(std::mem::offset_of!($type, $field) == $place &&)* std::mem::size_of::<$type>() == $size);
+    };
+}
+
+laid_out!(Lookup, number 0 version 4 epoch 8 digests 12 key_start 16 key_length 24, 32);
+laid_out!(History, number 0 versions 4 epoch 8 digests 12, 16);
+laid_out!(Audit, number 0 old_epoch 4 new_epoch 8 digests 12, 16);
+laid_out!(Digest, bytes 0, 32);
+laid_out!(Published, number 0 count 4 epoch 8, 12);
+laid_out!(Written, number 0 count 4 epoch 8 length 16, 24);
+
 extern "C" {
     pub fn noonhaggle_check_lookup(head: *const u8, head_length: usize, name: *const u8, name_length: usize, proof: *const u8, proof_length: usize) -> Lookup;
     pub fn noonhaggle_check_history(head: *const u8, head_length: usize, name: *const u8, name_length: usize, proof: *const u8, proof_length: usize) -> History;

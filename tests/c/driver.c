@@ -1,6 +1,7 @@
 /*
  * The driver's requests (docs/DRIVER.md) put through the archive, from C: calls 1, 4 to 6 and 10 to 14, whose functions the archive has.
- * Any other request, and one that is not readable, is answered `bad`. Memory that a refusal has to leave alone is compared afterwards.
+ * Any other request, and one that is not readable, is answered `bad`. Memory that a refusal has to leave alone is compared afterwards. No
+ * bytes are lent as NULL.
  */
 #include "noonhaggle.h"
 
@@ -37,10 +38,17 @@ static int split(size_t n) {
     while (at < n && k < FIELDS) {
         if (n - at < 4 || n - at - 4 < number(request + at)) return -1;
         length[k] = number(request + at);
-        field[k] = request + at + 4;
+        field[k] = length[k] == 0 ? NULL : request + at + 4;
         at += 4 + length[k++];
     }
     return at == n ? k : -1;
+}
+
+/* whether the fields from one to before another are numbers of 4 bytes */
+static int numbers(int from, int to) {
+    for (int k = from; k < to; k++)
+        if (length[k] != 4) return 0;
+    return 1;
 }
 
 static void print_bytes(const uint8_t *p, size_t n) {
@@ -97,10 +105,11 @@ static void publish(size_t n) {
 }
 
 static struct noonhaggle_written write_proof(int call, uint32_t count, uint32_t epoch, size_t room) {
-    if (call == 14) return noonhaggle_write_audit(field[0], length[0], field[1], length[1], count, epoch, number(field[4]), out, room);
+    uint8_t *to = room == 0 ? NULL : out;
+    if (call == 14) return noonhaggle_write_audit(field[0], length[0], field[1], length[1], count, epoch, number(field[4]), to, room);
     uint32_t at = number(field[5]);
-    if (call == 12) return noonhaggle_write_lookup(field[0], length[0], field[1], length[1], count, epoch, field[4], length[4], at, out, room);
-    return noonhaggle_write_history(field[0], length[0], field[1], length[1], count, epoch, field[4], length[4], at, out, room);
+    if (call == 12) return noonhaggle_write_lookup(field[0], length[0], field[1], length[1], count, epoch, field[4], length[4], at, to, room);
+    return noonhaggle_write_history(field[0], length[0], field[1], length[1], count, epoch, field[4], length[4], at, to, room);
 }
 
 /* the output holds a pattern before, of which nothing may change on a refusal, and on success only the proof's bytes */
@@ -137,9 +146,9 @@ static void answer(int call, int fields, size_t n) {
     else if (call == 5 && fields == 3) history();
     else if (call == 6 && fields == 3) audit();
     else if (call == 10 && fields == 1) start(n);
-    else if (call == 11 && fields == 5) publish(n);
-    else if ((call == 12 || call == 13) && fields == 7) writer(call, fields, n);
-    else if (call == 14 && fields == 6) writer(call, fields, n);
+    else if (call == 11 && fields == 5 && numbers(2, 4)) publish(n);
+    else if ((call == 12 || call == 13) && fields == 7 && numbers(2, 4) && numbers(5, 7)) writer(call, fields, n);
+    else if (call == 14 && fields == 6 && numbers(2, 6)) writer(call, fields, n);
     else printf("bad\n");
 }
 
