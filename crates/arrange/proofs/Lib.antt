@@ -4,3 +4,4 @@ pub mod Parting
 pub mod Order
 pub mod Step
 pub mod Distinct
+pub mod One

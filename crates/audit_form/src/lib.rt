@@ -13,6 +13,7 @@ ghost use Rattle.paper.specs.Layout.{times, parse, inLayout};
 ghost use Rattle.paper.specs.Fields.{prefixField};
 ghost use Rattle.paper.specs.Audit.{leafFields, auditRecordField, listField, auditField};
 ghost use Rattle.fields.specs.After.{afterAt};
+ghost use Rattle.ranges.specs.Part.{PartAt};
 ghost use Rattle.audit_form.specs.Places.{labelAt};
 
 // "Each proof begins "VKD", 16-bit version 1, kind 1 (1 lookup, 2 history, 3 audit)".
@@ -21,7 +22,7 @@ const OPENS: [u8; 6] = [0x56, 0x4B, 0x44, 0, 1, 3];
 // The 32 bytes of label or prefix in the record at `at`, as a part of the lent bytes.
 pub fn label_at(s: &[u8], at: usize) -> &[u8]
     requires { ⌜ at + 99 ≤ length (now s) ⌝ }
-    ensures { λ r. ⌜ now r ≡ labelAt (now (s .entry)) at ⌝ }
+    ensures { λ r. ⌜ PartAt (s .entry) (at + 3) (labelAt (now (s .entry)) at) r ⌝ }
 {
     let start = at + 3;
     let after = at + 35;

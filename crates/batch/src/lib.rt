@@ -4,18 +4,19 @@ use ranges::same;
 use record::filled_at;
 use record_form::filled;
 ghost use mathlib.Core.Path.{_≡_};
-ghost use Prim.Native.Nat.{ℕ, suc, _*_, _≤_, _<_};
+ghost use Prim.Native.Nat.{ℕ, suc, _+_, _*_, _≤_, _<_};
 ghost use lib.ListN.{length, drop};
 ghost use Rattle.paper.specs.Layout.{inLayout, parse, times};
 ghost use Rattle.paper.specs.Labelling.{plain};
 ghost use Rattle.paper.specs.Table.{updateField};
 ghost use Rattle.paper.specs.Publish.{once};
+ghost use Rattle.ranges.specs.Part.{PartAt};
 ghost use Rattle.batch.specs.Places.{updateAt, updatesIn, bearsFrom, Lies};
 
 // The name of update i, as a part of the batch.
 pub fn name_in(s: &[u8], i: usize) -> &[u8]
     requires { ⌜ Lies (now s) i ⌝ }
-    ensures { λ r. ⌜ now r ≡ updateAt (now (s .entry)) i .name ⌝ }
+    ensures { λ r. ⌜ PartAt (s .entry) (i * 162 + 1) (updateAt (now (s .entry)) i .name) r ⌝ }
 {
     filled_at(s, i * 162)
 }

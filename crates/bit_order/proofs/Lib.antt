@@ -3,3 +3,4 @@ pub mod Order
 pub mod Cut
 pub mod Sides
 pub mod Leaves
+pub mod Told

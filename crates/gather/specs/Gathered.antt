@@ -3,7 +3,7 @@ use mathlib.Core.Path.{_≡_}
 use mathlib.Core.Bool.{Bool, true, false}
 use mathlib.Core.List.{List, flatMap, _++_}
 use Prim.Native.Nat.{ℕ, _+_, _*_, _≤_, _<_}
-use lib.ListN.{length}
+use lib.ListN.{length, drop}
 use Rattle.paper.specs.Bytes.{Bytes}
 use Rattle.paper.specs.Strings.{Node}
 use Rattle.paper.specs.Labelling.{plain}
@@ -20,10 +20,12 @@ leavesOf false r = allLeaves plain r
 abbrev pub leavesBy : Bool → ℕ → List Record → List Node
 leavesBy old t rs = flatMap (leavesOf old) (byEpoch t rs)
 
--- m leaves stand where n stood: those, and `more` behind them; the row keeps its length
+-- m leaves stand where n stood: those, and `more` behind them; the row keeps its length, and what lies behind them is as it was
 pub record Gained (before after : Bytes) (n m : ℕ) (more : List Node) : Type 0 where
   pub leaves : leavesIn m after ≡ leavesIn n before ++ more
   pub number : m ≡ n + length more
+  pub size : length after ≡ length before
+  pub rest : drop (m * entrySize) after ≡ drop (m * entrySize) before
 
 -- each of the records can be read, and their leaves fit behind the n that are there
 pub record Room (records row : Bytes) (count n : ℕ) : Type 0 where

@@ -2,3 +2,4 @@
 pub mod Slices
 pub mod Compare
 pub mod Row
+pub mod Part

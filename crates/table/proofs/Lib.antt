@@ -5,3 +5,4 @@ pub mod Own
 pub mod Rules
 pub mod Read
 pub mod Shapes
+pub mod One

@@ -17,7 +17,7 @@ use Rattle.paper.specs.Layout.{Read, got, bad}
 use Rattle.paper.specs.Table.{Record, recordField, counted, headLies, follows, inShape}
 use Rattle.paper.proofs.Lists.{and-left, and-right, not-both}
 use Rattle.record.specs.Places.{recordAt, recordsIn}
-use Rattle.table.specs.Index.{Indexed}
+use Rattle.table.specs.Index.{Indexed, Unlinked}
 use Rattle.table.specs.Shape.{shapedRead, shaped, Counted, Tested, Shaped}
 use Rattle.table.proofs.Rules.{shape-none, shape-more, shape-stop}
 use Rattle.record_form.proofs.Formed.{formed}
@@ -44,7 +44,7 @@ short-fails s w n epoch h = ap (shapedRead epoch) (counted-short s w n h)
 
 module _ (s : Bytes) (w : Bytewise s) (n : ℕ) (room : n * recordSize ≤ length s) (epoch : ℕ) (first next : List ℕ) where
   fails : shapedRead epoch (counted s n) ≡ false → Counted s n epoch first next false
-  fails e = record { is = sym e; index = λ q. not-both q refl }
+  fails e = record { is = sym e; index = λ q. not-both q refl; rest = λ q. not-both q refl }
 
   pub form-fails : (i : ℕ) → i < n → formed s i ≡ false → Counted s n epoch first next false
   form-fails i h f = fails (ap (shapedRead epoch) (counted-bad s w n room i h f))
@@ -56,14 +56,14 @@ module _ (s : Bytes) (w : Bytewise s) (n : ℕ) (room : n * recordSize ≤ lengt
       by bad e = refl
       by (got rs r) e = ap (inShape plain epoch []) (counted-told s w n rs r e .is) ∙ shape-stop s epoch n i h f
 
-  pub all-pass : Passed s n epoch → Indexed s n first next → Counted s n epoch first next true
-  all-pass p x = record { is = sym (ap (shapedRead epoch) (counted-got s w n room (p .forms)) ∙ p .shape); index = λ q. x }
+  pub all-pass : Passed s n epoch → Indexed s n first next → Unlinked n next → Counted s n epoch first next true
+  all-pass p x u = record { is = sym (ap (shapedRead epoch) (counted-got s w n room (p .forms)) ∙ p .shape); index = λ q. x; rest = λ q. u }
 
 -- ---- the tables
 
 module _ (records heads : Bytes) (count epoch : ℕ) (first next : List ℕ) where
   fail : shaped records heads count epoch ≡ false → Tested records heads count epoch first next false
-  fail e = record { is = sym e; index = λ q. not-both q refl }
+  fail e = record { is = sym e; index = λ q. not-both q refl; rest = λ q. not-both q refl }
 
   pub head-fails : length heads < suc epoch * wide → Tested records heads count epoch first next false
   unfolding shaped headLies
@@ -78,7 +78,7 @@ module _ (records heads : Bytes) (count epoch : ℕ) (first next : List ℕ) whe
     records-fail w h = fail (lies-is ∙ short-fails records w count epoch h)
 
     pub records-decide : (r : Bool) → Counted records count epoch first next r → Tested records heads count epoch first next r
-    records-decide r c = record { is = c .is ∙ sym lies-is; index = c .index }
+    records-decide r c = record { is = c .is ∙ sym lies-is; index = c .index; rest = c .rest }
 
 -- ---- what tables in shape say
 

@@ -7,7 +7,7 @@ use mathlib.Core.List.{List}
 use Prim.Native.Nat.{ℕ, suc, _-_, _*_, _≤_, _<_}
 use native.Mathlib.Omega.{arith}
 use native.Mathlib.Decide.{decLt, ℕ-discrete}
-use lib.ListN.{length, take, getD, set, replicate, length-set, length-replicate, getD-replicate}
+use lib.ListN.{length, take, getD, set, replicate, length-set, length-replicate, getD-replicate, List·getD-eq-default}
 use lib.Seq.{getD-set-same, getD-set-other, ext-getD}
 use lib.Dec.{eqb}
 use borrow.Author.Tests.{eq-eqb, ne-eqb, eqb-true}
@@ -17,7 +17,7 @@ use Rattle.paper.specs.Labelling.{sameName}
 use Rattle.paper.proofs.Bytes.{same-eq}
 use Rattle.record.specs.Places.{recordAt, Stands}
 use Rattle.record.proofs.Places.{at-same, stands-same}
-use Rattle.table.specs.Index.{buckets, bucketOf, lastWhere, named, falls, Indexed}
+use Rattle.table.specs.Index.{buckets, bucketOf, lastWhere, named, falls, Indexed, Unlinked}
 use Rattle.table.proofs.Last.{last-none, last-yes, last-no, last-most, last-passes, last-same, last-below, bucket-lt}
 
 -- names as they are spelled
@@ -93,6 +93,9 @@ index-none s first next f g l m e q = record {
   few = omega arith;
 }
 
+pub unlinked-none : (next : List ℕ) (g : ℕ) → next ≡ replicate g 0 → Unlinked 0 next
+unlinked-none next g q k h = ap (λ x. getD x k 0) q ∙ by-cases (decLt k g) (λ l. getD-replicate g k 0 0 l) (λ l. List·getD-eq-default (replicate g 0) 0 (omega (arith, length-replicate {A = ℕ} g 0)))
+
 -- the records of an index stand, and one more
 pub stands-more : {s : Bytes} {n : ℕ} {first next : List ℕ} → Indexed s n first next → Stands s n → (k : ℕ) → k ≤ n → Stands s k
 stands-more {n = n} x here k h = by-cases (decLt k n) (λ l. x .stands k l) (λ l. let q : k ≡ n = omega arith in rw q here)
@@ -127,6 +130,9 @@ module _ (s : Bytes) (n : ℕ) (first next : List ℕ) (x : Indexed s n first ne
     links = links-more;
     few = room;
   }
+
+  pub unlinked-more : Unlinked n next → Unlinked (suc n) linked
+  unlinked-more u k h = getD-set-other next n k (getD first b 0) 0 (λ q. omega arith) ∙ u k (omega arith)
 
 -- ---- the same records
 

@@ -42,3 +42,7 @@ pub record Indexed (s : Bytes) (n : ℕ) (first next : List ℕ) : Type 0 where
   pub few : n ≤ recordsMost
   pub heads : (b : ℕ) → b < buckets → getD first b 0 ≡ lastWhere (falls s b) n
   pub links : (k : ℕ) → k < n → getD next k 0 ≡ lastWhere (falls s (bucketOf (recordAt s k .name))) k
+
+-- and no record from number n on has a link
+abbrev pub Unlinked : ℕ → List ℕ → Type 0
+Unlinked n next = (k : ℕ) → n ≤ k → getD next k 0 ≡ 0

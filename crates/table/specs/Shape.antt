@@ -12,7 +12,7 @@ use Rattle.paper.specs.Labelling.{plain}
 use Rattle.paper.specs.Layout.{Read, got, bad}
 use Rattle.paper.specs.Table.{Record, recordField, counted, headLies, ownRecords, inShape}
 use Rattle.record.specs.Places.{recordsIn, Stands}
-use Rattle.table.specs.Index.{Indexed}
+use Rattle.table.specs.Index.{Indexed, Unlinked}
 
 -- "The counted records and the current head must lie in their tables", and the records obey the rules
 abbrev pub shapedRead : ℕ → Read (List Record) → Bool
@@ -22,15 +22,17 @@ shapedRead epoch (got rs r) = inShape plain epoch [] rs
 unfoldable pub shaped : Bytes → Bytes → ℕ → ℕ → Bool
 shaped records heads count epoch = headLies heads epoch && shapedRead epoch (counted records count)
 
--- the answer, and the index that is left where it is yes
+-- the answer, and where it is yes the index that is left, every entry of it
 pub record Tested (records heads : Bytes) (count epoch : ℕ) (first next : List ℕ) (r : Bool) : Type 0 where
   pub is : r ≡ shaped records heads count epoch
   pub index : r ≡ true → Indexed records count first next
+  pub rest : r ≡ true → Unlinked count next
 
 -- the same of the records alone
 pub record Counted (records : Bytes) (count epoch : ℕ) (first next : List ℕ) (r : Bool) : Type 0 where
   pub is : r ≡ shapedRead epoch (counted records count)
   pub index : r ≡ true → Indexed records count first next
+  pub rest : r ≡ true → Unlinked count next
 
 -- what is asked of a record behind those before it, in two parts: "epochs lie between 1 and the current one and never fall" ..
 abbrev pub epochFollows : ℕ → List Record → Record → Bool

@@ -11,7 +11,7 @@ ghost use lib.ListN.{length};
 ghost use Rattle.paper.specs.Labelling.{plain};
 ghost use Rattle.paper.specs.Table.{follows};
 ghost use Rattle.record.specs.Places.{recordAt, recordsIn};
-ghost use Rattle.table.specs.Index.{Indexed};
+ghost use Rattle.table.specs.Index.{Indexed, Unlinked};
 ghost use Rattle.table.specs.Shape.{epochFollows, versionFollows, Reached, Counted};
 
 // "epochs lie between 1 and the current one and never fall": those before record i never fell, so the last of them decides.
@@ -67,7 +67,7 @@ pub(crate) fn all_follow(
     first: &mut [u16],
     next: &mut [u16],
 ) -> bool
-    requires { ⌜ Indexed (now s) 0 (now first) (now next) × (n * 168 ≤ length (now s)) × (n ≤ 4096) ⌝ }
+    requires { ⌜ Indexed (now s) 0 (now first) (now next) × (n * 168 ≤ length (now s)) × (n ≤ 4096) × Unlinked 0 (now next) ⌝ }
     ensures { λ r. ⌜ Counted (now (s .entry)) n epoch (now (first .exit)) (now (next .exit)) r ⌝ }
 {
     for i in 0..n {

@@ -6,7 +6,7 @@ ghost use mathlib.Core.Path.{_≡_};
 ghost use Prim.Native.Nat.{suc, _<_};
 ghost use lib.ListN.{length, replicate};
 ghost use Rattle.record.specs.Places.{Stands};
-ghost use Rattle.table.specs.Index.{bucketOf, lastWhere, named, Indexed};
+ghost use Rattle.table.specs.Index.{bucketOf, lastWhere, named, Indexed, Unlinked};
 
 // An index over no records.
 pub(crate) fn clear(d: &mut [u16])
@@ -46,8 +46,8 @@ pub(crate) fn last_of(s: &[u8], n: usize, first: &[u16], next: &[u16], name: &[u
 
 // Enters record i, the next one.
 pub(crate) fn enter(s: &[u8], i: usize, first: &mut [u16], next: &mut [u16])
-    requires { ⌜ Indexed (now s) i (now first) (now next) × Stands (now s) i × (i < 4096) ⌝ }
-    ensures { λ _. ⌜ Indexed (now (s .entry)) (suc i) (now (first .exit)) (now (next .exit)) ⌝ }
+    requires { ⌜ Indexed (now s) i (now first) (now next) × Stands (now s) i × (i < 4096) × Unlinked i (now next) ⌝ }
+    ensures { λ _. ⌜ Indexed (now (s .entry)) (suc i) (now (first .exit)) (now (next .exit)) × Unlinked (suc i) (now (next .exit)) ⌝ }
 {
     let b = bucket(name_at(s, i));
     next[i] = first[b];

@@ -5,3 +5,4 @@ pub mod Step
 pub mod Halves
 pub mod Slots
 pub mod Flat
+pub mod One

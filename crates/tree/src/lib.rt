@@ -20,6 +20,7 @@ ghost use Rattle.paper.specs.Bytes.{pasted};
 ghost use Rattle.paper.specs.Strings as S;
 ghost use Rattle.paper.specs.Tree as T;
 ghost use Rattle.paper.specs.Level.{entryLeaf, leavesIn};
+ghost use Rattle.ranges.specs.Part.{PartAt};
 ghost use Rattle.tree.specs.Stored.{Sorted, Range, Part, Cut, Forked, BelowLaid, SideLaid, Laid};
 
 // The root's two sides over n leaves: the first `split` leaves are on the left, the others on the right, and each side has a digest.
@@ -38,7 +39,7 @@ pub struct Fork {
 // The label of leaf i, as a part of the lent bytes.
 pub fn label_of(s: &[u8], i: usize) -> &[u8]
     requires { ⌜ i * 68 + 68 ≤ length (now s) ⌝ }
-    ensures { λ r. ⌜ now r ≡ take 32 (drop (i * 68) (now (s .entry))) ⌝ }
+    ensures { λ r. ⌜ PartAt (s .entry) (i * 68) (take 32 (drop (i * 68) (now (s .entry)))) r ⌝ }
 {
     let start = i * 68;
     let after = start + 32;

@@ -1,10 +1,11 @@
 -- `audit_form::label_at`: the part has 32 bytes.
 use borrow.Author.Needs.{needs}
 use native.Mathlib.Omega.{arith}
-use mathlib.Core.Path.{_≡_, ap}
+use mathlib.Core.Path.{_≡_, refl, ap}
 use Prim.Native.Nat.{_+_, _-_}
 use lib.ListN.{take, drop}
 use Rattle.paper.specs.Numbers.{wide}
+use Rattle.ranges.proofs.Part.{part-made}
 use Rattle.audit_form.specs.Places.{labelAt}
 use Rattle.audit_form.proofs.label_at.Statement.{statement}
 use Rattle.audit_form.proofs.label_at.Tie as tie
@@ -29,7 +30,7 @@ unfolding labelAt
 returns c =
     let start = c .before in
     let e : start .args .at + 35 - (start .args .at + 3) ≡ wide = omega arith in
-    ap (λ n. take n (drop (start .args .at + 3) (start .args .s .now))) e
+    part-made (start .args .s) _ _ _ (ap (λ n. take n (drop (start .args .at + 3) (start .args .s .now))) e) refl
 
 pub label-at-spec : {M : Type 1} → statement M
 label-at-spec =

@@ -55,7 +55,7 @@ returns-2 c =
     let least : 1 ≤ number (take 2 (drop (at + 1) s)) = omega arith in
     let most : number (take 2 (drop (at + 1) s)) ≤ 255 = omega (arith, ltb-false) in
     c .same .ensures
-    ∙ ap₂ same (c .before .before .prefix-of .ensures ∙ ap₂ (λ k x. pack wide (take k (bitsOf x))) n (label .label-at .ensures)) (label .label-at .ensures)
+    ∙ ap₂ same (c .before .before .prefix-of .ensures ∙ ap₂ (λ k x. pack wide (take k (bitsOf x))) n (label .label-at .ensures .bytes)) (label .label-at .ensures .bytes)
     ∙ sym (prefix-in s at w (start .pre) least most)
 
 pub prefix-form-spec : {M : Type 1} → statement M

@@ -106,7 +106,7 @@ module _ (t : ℕ) where
       let a = start c .args in
       let found = c .before in
       let k = found .first-difference .result in
-      let e = found .first-difference .ensures ∙ ap₂ (λ x y. firstDifference (take 32 x) (take 32 y)) (found .before .before .label-at .ensures) (found .before .label-at2 .ensures) in
+      let e = found .first-difference .ensures ∙ ap₂ (λ x y. firstDifference (take 32 x) (take 32 y)) (found .before .before .label-at .ensures .bytes) (found .before .label-at2 .ensures .bytes) in
       subst (Step (a .s .now) (a .at) (a .n) (a .from) k) (sym (c .lefts .ensures)) (range-step (a .s .now) (a .at) (a .n) (a .from) (start c .pre .1) (omega arith) k e)
 
   add-below : below-lts.Need-add-below claims (below-at t) below.Post
@@ -165,7 +165,7 @@ module _ (t : ℕ) where
       let label = found .before .before in
       let a = label .before .before .before .before .args in
       let k = found .first-difference .result in
-      let x = prefix .prefix-of .ensures ∙ ap (λ y. pack wide (take k (bitsOf y))) (label .label-at .ensures) in
+      let x = prefix .prefix-of .ensures ∙ ap (λ y. pack wide (take k (bitsOf y))) (label .label-at .ensures .bytes) in
       let l = left .below .ensures in
       let r = right .below2 .ensures in
       c .fork .ensures ∙ (λ i. forked k (x i) (l i) (r i)) ∙ sym (cut (left .before) .joins (a .new))

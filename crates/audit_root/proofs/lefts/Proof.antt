@@ -42,7 +42,7 @@ returns c =
     let a = turn .before .before .args in
     let m = turn .loop .m in
     let e : a .n - m ≡ suc (a .n - (m + 1)) = omega arith in
-    let b = sym (c .before .label-bit .ensures ∙ ap (λ x. getD (bitsOf x) (a .k) false) (c .before .before .label-at .ensures)) ∙ c .if1 .taken in
+    let b = sym (c .before .label-bit .ensures ∙ ap (λ x. getD (bitsOf x) (a .k) false) (c .before .before .label-at .ensures .bytes)) ∙ c .if1 .taken in
     omega (arith, turn .loop .inv .1, ap (leftsAt (a .s .now) (a .k) (a .at + m * 99)) e ∙ lefts-stop (a .s .now) (a .k) (a .at + m * 99) (a .n - (m + 1)) b)
 
 add-m : tie.Need-add-m Inv-loop μ-loop
@@ -58,7 +58,7 @@ loop-again c =
     let m = turn .loop .m in
     let e : a .n - m ≡ suc (a .n - (m + 1)) = omega arith in
     let f : a .at + m * 99 + 99 ≡ a .at + (m + 1) * 99 = omega arith in
-    let b = sym (c .before .label-bit .ensures ∙ ap (λ x. getD (bitsOf x) (a .k) false) (c .before .before .label-at .ensures)) ∙ c .if1 .left in
+    let b = sym (c .before .label-bit .ensures ∙ ap (λ x. getD (bitsOf x) (a .k) false) (c .before .before .label-at .ensures .bytes)) ∙ c .if1 .left in
     let g = ap (leftsAt (a .s .now) (a .k) (a .at + m * 99)) e ∙ lefts-more (a .s .now) (a .k) (a .at + m * 99) (a .n - (m + 1)) b in
     (search needs, omega (arith, turn .loop .inv .1, rw f at g))
 

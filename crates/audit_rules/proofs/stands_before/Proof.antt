@@ -31,7 +31,7 @@ returns : tie.Need-returns
 returns c =
     let found = c .before .before in
     let start = found .before .before .before .before in
-    let e = found .first-difference .ensures ∙ ap₂ (λ x y. firstDifference (take 32 x) (take 32 y)) (found .before .label-at2 .ensures) (found .before .before .label-at .ensures) in
+    let e = found .first-difference .ensures ∙ ap₂ (λ x y. firstDifference (take 32 x) (take 32 y)) (found .before .label-at2 .ensures .bytes) (found .before .before .label-at .ensures .bytes) in
     sym (order-first (start .args .s .now) (start .args .a) (start .args .b) (start .pre .0) (start .pre .1) _ e (omega (arith, c .before .read16 .ensures)))
 
 add-read16-2 : tie.Need-add-read16-2
@@ -47,7 +47,7 @@ returns-2 : tie.Need-returns-2
 returns-2 c =
     let found = c .before .before .before .before in
     let start = found .before .before .before .before in
-    let e = found .first-difference .ensures ∙ ap₂ (λ x y. firstDifference (take 32 x) (take 32 y)) (found .before .label-at2 .ensures) (found .before .before .label-at .ensures) in
+    let e = found .first-difference .ensures ∙ ap₂ (λ x y. firstDifference (take 32 x) (take 32 y)) (found .before .label-at2 .ensures .bytes) (found .before .before .label-at .ensures .bytes) in
     sym (order-second (start .args .s .now) (start .args .a) (start .args .b) (start .pre .0) (start .pre .1) _ e (omega (arith, c .before .read162 .ensures)))
 
 label-bit-requires : tie.Need-label-bit-requires
@@ -57,8 +57,8 @@ returns-3 : tie.Need-returns-3
 returns-3 c =
     let found = c .before .before .before .before .before in
     let start = found .before .before .before .before in
-    let label = found .before .before .label-at .ensures in
-    let e = found .first-difference .ensures ∙ ap₂ (λ x y. firstDifference (take 32 x) (take 32 y)) (found .before .label-at2 .ensures) (found .before .before .label-at .ensures) in
+    let label = found .before .before .label-at .ensures .bytes in
+    let e = found .first-difference .ensures ∙ ap₂ (λ x y. firstDifference (take 32 x) (take 32 y)) (found .before .label-at2 .ensures .bytes) (found .before .before .label-at .ensures .bytes) in
     c .label-bit .ensures
     ∙ ap (λ x. getD (bitsOf x) (found .first-difference .result) false) label
     ∙ sym (order-bit (start .args .s .now) (start .args .a) (start .args .b) (start .pre .0) (start .pre .1) _ e (omega (arith, c .before .before .before .before .read16 .ensures)) (omega (arith, c .before .before .read162 .ensures)))

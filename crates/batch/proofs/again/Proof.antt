@@ -42,7 +42,7 @@ same-requires c κs = tt
 
 -- the names compared
 compared : (c : tie.After-same Inv-loop μ-loop) → c .same .result ≡ same (updateAt (c .before .before .before .before .before .before .args .s .now) (c .before .before .before .loop .j) .name) (updateAt (c .before .before .before .before .before .before .args .s .now) (c .before .before .before .before .before .before .args .i) .name)
-compared c = c .same .ensures ∙ ap₂ same (c .before .name-in2 .ensures) (c .before .before .before .before .name-in .ensures)
+compared c = c .same .ensures ∙ ap₂ same (c .before .name-in2 .ensures .bytes) (c .before .before .before .before .name-in .ensures .bytes)
 
 returns : tie.Need-returns Inv-loop μ-loop
 returns c =

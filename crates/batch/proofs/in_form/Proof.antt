@@ -72,7 +72,7 @@ returns-3 c =
     let here = c .before .before in
     let known = here .before .before .before .before in
     let a = known .before in
-    c .is-name .ensures ∙ ap isName (c .before .name-in .ensures) ∙ sym (formed-name (a .args .s .now) (a .args .i) (bytes known) (a .pre) (name-formed here) (key-formed here))
+    c .is-name .ensures ∙ ap isName (c .before .name-in .ensures .bytes) ∙ sym (formed-name (a .args .s .now) (a .args .i) (bytes known) (a .pre) (name-formed here) (key-formed here))
 
 pub in-form-spec : {M : Type 1} → statement M
 in-form-spec =

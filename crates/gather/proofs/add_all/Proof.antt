@@ -46,7 +46,7 @@ opening-at-requires c κs = search needs
 
 -- src/lib.rt:45:30
 label-requires : tie.Need-label-requires
-label-requires c κs = rw (c .before .before .before .before .name-at .ensures) (name-few _ _)
+label-requires c κs = rw (c .before .before .before .before .name-at .ensures .bytes) (name-few _ _)
 
 -- src/lib.rt:45:76
 key-at-requires : tie.Need-key-at-requires
@@ -54,7 +54,7 @@ key-at-requires c κs = search needs
 
 -- src/lib.rt:45:55
 commitment-requires : tie.Need-commitment-requires
-commitment-requires c κs = rw (c .key-at .ensures) (key-few _ _)
+commitment-requires c κs = rw (c .key-at .ensures .bytes) (key-few _ _)
 
 -- src/lib.rt:45:9
 put-leaf-requires : tie.Need-put-leaf-requires
@@ -75,7 +75,7 @@ recordHere c = recordAt (c .before .before .before .before .before .before .befo
 first : (c : tie.After-marker-of) → Gained (c .before .before .before .before .before .before .before .before .before .before .before .before .before .before .before .args .row .now) (c .before .before .before .put-leaf .last .0) (c .before .before .before .before .before .before .before .before .before .before .before .before .before .before .before .args .n) (c .before .before .before .put-leaf .result) (versionLeaf (recordHere c) ∷ [])
 first c =
     let e : leaf (bitsOf (c .before .before .before .before .before .before .before .label .result)) (c .before .before .before .before .commitment .result) (c .before .before .before .before .before .before .before .before .before .before .epoch-at .result) ≡ versionLeaf (recordHere c) =
-    rw (c .before .before .before .before .before .before .before .label .ensures, c .before .before .before .before .commitment .ensures, c .before .before .before .before .before .before .before .before .before .before .epoch-at .ensures, c .before .before .before .before .before .before .before .before .before .before .before .version-at .ensures, c .before .before .before .before .before .before .before .before .before .before .before .before .name-at .ensures, c .before .before .before .before .before .before .before .before .before .opening-at .ensures, c .before .before .before .before .before .key-at .ensures) in
+    rw (c .before .before .before .before .before .before .before .label .ensures, c .before .before .before .before .commitment .ensures, c .before .before .before .before .before .before .before .before .before .before .epoch-at .ensures, c .before .before .before .before .before .before .before .before .before .before .before .version-at .ensures, c .before .before .before .before .before .before .before .before .before .before .before .before .name-at .ensures .bytes, c .before .before .before .before .before .before .before .before .before .opening-at .ensures, c .before .before .before .before .before .key-at .ensures .bytes) in
     rw (← e) (c .before .before .before .put-leaf .ensures)
 
 -- its marker's number
@@ -116,7 +116,7 @@ cast-label c = omega (arith, few (c .before .before))
 
 -- src/lib.rt:50:22
 label-requires-2 : tie.Need-label-requires-2
-label-requires-2 c κs = rw (c .before .before .before .before .before .before .before .before .before .before .before .before .before .before .name-at .ensures) (name-few _ _)
+label-requires-2 c κs = rw (c .before .before .before .before .before .before .before .before .before .before .before .before .before .before .name-at .ensures .bytes) (name-few _ _)
 
 -- src/lib.rt:50:5
 put-leaf-requires-2 : tie.Need-put-leaf-requires-2
@@ -132,7 +132,7 @@ returns-2 c =
     let w = c .before .before .before .before .before .before in
     let r = recordHere w in
     let e : leaf (bitsOf (c .before .before .before .label2 .result)) (zeros wide) (w .before .before .before .before .before .before .before .before .before .before .epoch-at .result) ≡ markerLeaf r =
-    rw (c .before .before .before .label2 .ensures, numbered w, w .before .before .before .before .before .before .before .before .before .before .before .before .name-at .ensures, w .before .before .before .before .before .before .before .before .before .before .epoch-at .ensures) in
+    rw (c .before .before .before .label2 .ensures, numbered w, w .before .before .before .before .before .before .before .before .before .before .before .before .name-at .ensures .bytes, w .before .before .before .before .before .before .before .before .before .before .epoch-at .ensures) in
     rw (all-marked r (sym (shifted w) ∙ c .before .before .before .before .before .if1 .left ∙ w .before .before .before .before .before .before .before .before .before .before .before .version-at .ensures)) (gain-more (first w) (rw (← e) (c .before .before .put-leaf2 .ensures)))
 
 pub add-all-spec : {M : Type 1} → statement M

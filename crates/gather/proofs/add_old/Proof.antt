@@ -40,7 +40,7 @@ name-at-requires c κs = search needs
 
 -- src/lib.rt:62:22
 label-requires : tie.Need-label-requires
-label-requires c κs = rw (c .name-at .ensures) (name-few _ _)
+label-requires c κs = rw (c .name-at .ensures .bytes) (name-few _ _)
 
 -- src/lib.rt:62:77
 epoch-at-requires : tie.Need-epoch-at-requires
@@ -60,7 +60,7 @@ returns-2 c =
     let a = c .before .before .before .before .before .before .before .before .before .before .before in
     let r = recordAt (a .args .records .now) (a .args .i) in
     let version = c .before .before .before .before .before .before .before .before .version-at .ensures in
-    let name = c .before .before .before .before .before .name-at .ensures in
+    let name = c .before .before .before .before .before .name-at .ensures .bytes in
     let label = c .before .before .before .before .label .ensures in
     let epoch = c .before .before .before .epoch-at .ensures in
     let e : leaf (bitsOf (c .before .before .before .before .label .result)) (zeros wide) (c .before .before .before .epoch-at .result) ≡ replacedLeaf r =

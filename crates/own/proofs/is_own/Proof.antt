@@ -30,7 +30,7 @@ returns-2 : tie.Need-returns-2
 returns-2 c =
     let e = c .before .before in
     let a = e .before .before .before .before .args in
-    c .same .ensures ∙ ap (λ x. same x (a .name .now)) (c .before .name-at .ensures) ∙ sym (own-then (a .records .now) (a .name .now) (a .epoch) (a .i) (omega (arith, e .before .epoch-at .ensures, e .if1 .left)))
+    c .same .ensures ∙ ap (λ x. same x (a .name .now)) (c .before .name-at .ensures .bytes) ∙ sym (own-then (a .records .now) (a .name .now) (a .epoch) (a .i) (omega (arith, e .before .epoch-at .ensures, e .if1 .left)))
 
 pub is-own-spec : {M : Type 1} → statement M
 is-own-spec =

@@ -63,7 +63,7 @@ returns c =
     let start = c .before .before .before .before .before .before .before .before .before .before .before .before .before .before .before .before .before .before in
     let a = start .args in
     let p = take (a .k) (bitsOf (take 32 (a .s .now))) in
-    let e = c .before .before .before .before .before .before .before .before .prefix-of .ensures ∙ ap (λ x. pack 32 (take (a .k) (bitsOf x))) (c .before .before .before .before .before .before .before .before .before .label-of .ensures) in
+    let e = c .before .before .before .before .before .before .before .before .prefix-of .ensures ∙ ap (λ x. pack 32 (take (a .k) (bitsOf x))) (c .before .before .before .before .before .before .before .before .before .label-of .ensures .bytes) in
     let n = prefix-size (a .s .now) (a .k) (start .pre .0) (omega (arith, start .pre .1)) in
     let size = pack-length wide p in
     record-wrote (a .out .now) _ _ _ (be 2 (length p)) (pack wide p) (a .slot .now) (a .at) (a .kind) (a .at + 35) (start .pre .3) (be-length 2 (length p)) (omega arith) (omega (arith, start .pre .2))

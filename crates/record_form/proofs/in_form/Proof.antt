@@ -60,7 +60,7 @@ returns-5 c =
     let known = here .before .before .before .before in
     let a = known .before in
     c .is-name .ensures
-    ∙ ap isName (c .before .name-at .ensures)
+    ∙ ap isName (c .before .name-at .ensures .bytes)
     ∙ sym (formed-name (a .args .s .now) (a .args .i) (bytes known) (a .pre) (name-formed here) (key-formed here) (omega (arith, read .read16 .ensures)) (omega (arith, read .read16 .ensures)))
 
 pub in-form-spec : {M : Type 1} → statement M

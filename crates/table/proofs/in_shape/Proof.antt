@@ -1,8 +1,9 @@
 -- `table::in_shape`: where the head and the records lie in their tables, the records decide.
 use borrow.Author.Needs.{needs}
 use native.Mathlib.Omega.{arith}
+use lib.ListN.{length}
 use Rattle.ranges.proofs.Slices.{bytewise}
-use Rattle.table.proofs.Walk.{index-none}
+use Rattle.table.proofs.Walk.{index-none, unlinked-none}
 use Rattle.table.proofs.Shapes.{head-fails, records-fail, records-decide}
 use Rattle.table.proofs.in_shape.Statement.{statement}
 use Rattle.table.proofs.in_shape.Tie as tie
@@ -23,7 +24,7 @@ all-follow-requires c κs =
     let cleared = c .before .before .before .before in
     let first = cleared .before .before .before .before in
     let a = first .before .before .before .before .before .before .before .before in
-    (index-none (a .args .records .now) _ _ _ _ (a .pre .0) (a .pre .1) (first .clear .ensures) (cleared .clear2 .ensures), omega arith, omega (arith, a .pre .2))
+    (index-none (a .args .records .now) _ _ _ _ (a .pre .0) (a .pre .1) (first .clear .ensures) (cleared .clear2 .ensures), omega arith, omega (arith, a .pre .2), unlinked-none _ (length (a .args .next .now)) (cleared .clear2 .ensures))
 
 returns-3 : tie.Need-returns-3
 returns-3 c =

@@ -29,7 +29,7 @@ returns c =
     let start = prefix .before .before .before in
     let a = start .args in
     let p = take (a .k) (bitsOf (take 32 (a .s .now))) in
-    let x = prefix .prefix-of .ensures ∙ ap (λ l. pack 32 (take (a .k) (bitsOf l))) (prefix .before .label-of .ensures) in
+    let x = prefix .prefix-of .ensures ∙ ap (λ l. pack 32 (take (a .k) (bitsOf l))) (prefix .before .label-of .ensures .bytes) in
     let n : a .k ≡ length p = sym (length-take-le (a .k) (bitsOf (take 32 (a .s .now))) (omega (arith, start .pre .1, bitsOf-length (take 32 (a .s .now)), length-take-le 32 (a .s .now) (omega (arith, start .pre .0))))) in
     c .inner .ensures ∙ (λ i. sha256 (innerString (n i) (x i) (a .left .now) (a .right .now)))
 

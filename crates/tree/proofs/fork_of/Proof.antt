@@ -25,7 +25,7 @@ leaves c = leavesIn (start c .args .n) (start c .args .s .now)
 
 shares : (c : tie.After-first-difference) → c .first-difference .result ≡ length (lcp (key (getD (leaves c) 0 nothing)) (key (getD (leaves c) (length (leaves c) - 1) nothing)))
 shares c =
-    c .first-difference .ensures ∙ ap₂ (λ x y. firstDifference (take 32 x) (take 32 y)) (c .before .before .label-of .ensures) (c .before .label-of2 .ensures)
+    c .first-difference .ensures ∙ ap₂ (λ x y. firstDifference (take 32 x) (take 32 y)) (c .before .before .label-of .ensures .bytes) (c .before .label-of2 .ensures .bytes)
     ∙ ends-differ (start c .args .n) (start c .args .s .now) (start c .pre .0)
 
 label-of-requires : tie.Need-label-of-requires

@@ -1,7 +1,9 @@
 -- `tree::label_of`: the part has 32 bytes.
 use borrow.Author.Needs.{needs}
 use Prim.Native.Nat.{_*_}
+use mathlib.Core.Path.{refl}
 use Rattle.ranges.proofs.Slices.{part-is}
+use Rattle.ranges.proofs.Part.{part-made}
 use Rattle.tree.proofs.label_of.Statement.{statement}
 use Rattle.tree.proofs.label_of.Tie as tie
 
@@ -21,7 +23,9 @@ part-result-end : tie.Need-part-result-end
 part-result-end c = search needs
 
 returns : tie.Need-returns
-returns c = part-is (c .before .args .s .now) (c .before .args .i * 68) 32
+returns c =
+    let a = c .before .args in
+    part-made (a .s) _ _ _ (part-is (a .s .now) (a .i * 68) 32) refl
 
 pub label-of-spec : {M : Type 1} → statement M
 label-of-spec =

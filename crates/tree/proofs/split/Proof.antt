@@ -31,7 +31,7 @@ found c =
     let a = c .before .before .before .before .before .args in
     let m = middle (c .before .before .before) in
     let h : m < a .n = omega arith in
-    c .label-bit .ensures ∙ ap (λ x. getD (bitsOf x) (a .k) false) (c .before .label-of .ensures) ∙ sym (ap (λ x. getD (key x) (a .k) false) (leaf-at (a .n) (a .s .now) m h))
+    c .label-bit .ensures ∙ ap (λ x. getD (bitsOf x) (a .k) false) (c .before .label-of .ensures .bytes) ∙ sym (ap (λ x. getD (key x) (a .k) false) (leaf-at (a .n) (a .s .now) m h))
 
 loop-holds : tie.Need-loop-holds Inv-loop μ-loop
 loop-holds c = (search needs, search needs, λ i h. absurd (omega arith), λ i h l. absurd (omega arith))

@@ -18,7 +18,7 @@ returns : tie.Need-returns
 returns c =
     let start = c .before .before .before .before in
     let a = start .args in
-    let e = c .first-difference .ensures ∙ ap (λ x. firstDifference (take 32 (a .label .now)) (take 32 x)) (c .before .label-of .ensures) in
+    let e = c .first-difference .ensures ∙ ap (λ x. firstDifference (take 32 (a .label .now)) (take 32 x)) (c .before .label-of .ensures .bytes) in
     ap (leb (a .k)) e ∙ begins-by (a .s .now) (a .label .now) (a .k) (start .pre .0) (start .pre .2) (start .pre .1)
 
 pub has-prefix-spec : {M : Type 1} → statement M

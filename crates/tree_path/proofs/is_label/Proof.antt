@@ -23,7 +23,7 @@ returns c =
     let start = known .before .before in
     let s = start .args .s .now in
     let label = start .args .label .now in
-    c .same .ensures ∙ ap (λ x. same x label) (c .before .label-of .ensures)
+    c .same .ensures ∙ ap (λ x. same x label) (c .before .label-of .ensures .bytes)
     ∙ same-bits (take 32 s) label (all-take _ 32 s (all-at _ s 0 (λ i h. known .before .shared-slice-known .given i .fits))) (all-at _ label 0 (λ i h. known .shared-slice-known2 .given i .fits))
     (length-take-le 32 s (omega (arith, start .pre .0)) ∙ sym (start .pre .1))
 

@@ -17,7 +17,7 @@ add-result c = search needs
 returns : tie.Need-returns
 returns c =
     let w = c .before .before in
-    sym (read-size (w .args .records .now) (w .args .i) (w .pre) (c .key-at .result .now) _ (c .key-at .ensures) refl)
+    sym (read-size (w .args .records .now) (w .args .i) (w .pre) (c .key-at .result .now) _ (c .key-at .ensures .bytes) refl)
 
 pub item-size-spec : {M : Type 1} → statement M
 item-size-spec = tie.close (tie.spec key-at-requires add-result returns)

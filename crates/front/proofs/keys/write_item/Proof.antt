@@ -19,10 +19,10 @@ start c = c .before .before .before
 room : (c : tie.After-key-at) → start c .args .at + 33 + length (c .key-at .result .now) ≤ length (start c .args .out .now)
 room c =
     let a = start c .args in
-    omega (arith, start c .pre .1, read-size (a .records .now) (a .i) (start c .pre .0) (c .key-at .result .now) _ (c .key-at .ensures) refl)
+    omega (arith, start c .pre .1, read-size (a .records .now) (a .i) (start c .pre .0) (c .key-at .result .now) _ (c .key-at .ensures .bytes) refl)
 
 few : (c : tie.After-key-at) → length (c .key-at .result .now) ≤ 64
-few c = rw (c .key-at .ensures) (key-few (start c .args .records .now) (start c .args .i))
+few c = rw (c .key-at .ensures .bytes) (key-few (start c .args .records .now) (start c .args .i))
 
 -- src/keys.rt:31:15
 cast-out : tie.Need-cast-out
@@ -83,7 +83,7 @@ returns : tie.Need-returns
 returns c =
     let w = c .before .before .before .before .before .before .before .before .before .before in
     let a = start w .args in
-    item-wrote (a .records .now) (a .i) (start w .pre .0) (w .key-at .result .now) (c .before .before .before .before .opening-at .result) (w .key-at .ensures) (c .before .before .before .before .opening-at .ensures) (a .out .now) (c .before .before .before .before .before .before .before .before .put .last .0) (c .before .before .put2 .last .0) (a .at) (start w .pre .1) (c .before .before .before .before .before .before .before .before .put .ensures) (c .before .before .put2 .ensures)
+    item-wrote (a .records .now) (a .i) (start w .pre .0) (w .key-at .result .now) (c .before .before .before .before .opening-at .result) (w .key-at .ensures .bytes) (c .before .before .before .before .opening-at .ensures) (a .out .now) (c .before .before .before .before .before .before .before .before .put .last .0) (c .before .before .put2 .last .0) (a .at) (start w .pre .1) (c .before .before .before .before .before .before .before .before .put .ensures) (c .before .before .put2 .ensures)
 
 pub write-item-spec : {M : Type 1} → statement M
 write-item-spec =

@@ -34,7 +34,7 @@ last-version-requires c κs = search needs
 versioned : (c : tie.After-last-version) → let a = c .before .before .before .before .before .before .before .args in suc (c .last-version .result) ≡ made (a .records .now) (a .count) (a .epoch) (a .batch .now) (a .i) .version
 versioned c =
     let a = c .before .before .before .before .before .before .before .args in
-    ap suc (c .last-version .ensures ∙ ap (λ name. lastVersion (ownRecords plain name (recordsIn (a .count) (a .records .now)))) (c .before .name-in .ensures))
+    ap suc (c .last-version .ensures ∙ ap (λ name. lastVersion (ownRecords plain name (recordsIn (a .count) (a .records .now)))) (c .before .name-in .ensures .bytes))
 
 -- src/fresh.rt:46:9
 returns : tie.Need-returns

@@ -10,7 +10,7 @@ use lib.ListN.{length}
 use Rattle.paper.specs.Bytes.{Bytewise}
 use Rattle.record.specs.Places.{Stands}
 use Rattle.ranges.proofs.Slices.{bytewise}
-use Rattle.table.specs.Index.{Indexed}
+use Rattle.table.specs.Index.{Indexed, Unlinked}
 use Rattle.record_form.proofs.Formed.{formed, formed-stands}
 use Rattle.table.proofs.Walk.{stands-more}
 use Rattle.table.proofs.Shapes.{Passed, passed-none, passed-more, form-fails, rule-fails, all-pass}
@@ -18,7 +18,7 @@ use Rattle.table.proofs.follow.all_follow.Statement.{statement}
 use Rattle.table.proofs.follow.all_follow.Tie as tie
 
 abbrev Inv-loop : tie.InvT-loop
-Inv-loop s n epoch first₀ next₀ i₀ first next i = (i ≤ n) × Indexed s i first next × Passed s i epoch
+Inv-loop s n epoch first₀ next₀ i₀ first next i = (i ≤ n) × Indexed s i first next × Passed s i epoch × Unlinked i next
 
 abbrev μ-loop : tie.MeasureT-loop
 μ-loop s n epoch first₀ next₀ i₀ first next i = n - i
@@ -36,7 +36,7 @@ sizes c =
 loop-holds : tie.Need-loop-holds Inv-loop μ-loop
 loop-holds c =
     let a = c .before .before .before in
-    (search needs, a .pre .0, passed-none (a .args .s .now) (a .args .epoch))
+    (search needs, a .pre .0, passed-none (a .args .s .now) (a .args .epoch), a .pre .3)
 
 in-form-requires : tie.Need-in-form-requires Inv-loop μ-loop
 in-form-requires c κs = omega (arith, c .before .before .before .before .before .pre .1)
@@ -73,7 +73,7 @@ enter-requires : tie.Need-enter-requires Inv-loop μ-loop
 enter-requires c κs =
     let here = c .before .before .before .before .before .before in
     let at = here .before .before .before in
-    (at .loop .inv .1, form here .1, omega (arith, at .before .before .before .before .pre .2))
+    (at .loop .inv .1, form here .1, omega (arith, at .before .before .before .before .pre .2), at .loop .inv .3)
 
 loop-again : tie.Need-loop-again Inv-loop μ-loop
 loop-again c =
@@ -83,14 +83,14 @@ loop-again c =
     let at = here .before .before .before in
     let a = at .before .before .before .before in
     let p = passed-more (a .args .s .now) (at .loop .i) (a .args .epoch) (at .loop .inv .2) (form here .0) (sym (follows .before .does-follow .ensures) ∙ not-false _ (follows .if2 .left)) in
-    (omega arith, rw (add-one (at .loop .i)) (done .enter .ensures), rw (add-one (at .loop .i)) p)
+    (omega arith, rw (add-one (at .loop .i)) (done .enter .ensures .0), rw (add-one (at .loop .i)) p, rw (add-one (at .loop .i)) (done .enter .ensures .1))
 
 returns-3 : tie.Need-returns-3 Inv-loop μ-loop
 returns-3 c =
     let at = c .before in
     let a = at .before .before .before .before in
     let e : at .loop .i ≡ a .args .n = omega (arith, at .loop .inv .0) in
-    all-pass (a .args .s .now) (bytes at) (a .args .n) (a .pre .1) (a .args .epoch) (at .loop .first) (at .loop .next) (rw e at (at .loop .inv .2)) (rw e at (at .loop .inv .1))
+    all-pass (a .args .s .now) (bytes at) (a .args .n) (a .pre .1) (a .args .epoch) (at .loop .first) (at .loop .next) (rw e at (at .loop .inv .2)) (rw e at (at .loop .inv .1)) (rw e at (at .loop .inv .3))
 
 pub all-follow-spec : {M : Type 1} → statement M
 all-follow-spec =

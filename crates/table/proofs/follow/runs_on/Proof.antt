@@ -23,7 +23,7 @@ last-is : (c : tie.After-last-of) → let a = c .before .before .before .before 
     c .last-of .result ≡ lastWhere (named (a .s .now) (recordAt (a .s .now) (a .i) .name)) (a .i)
 last-is c =
     let a = c .before .before .before .before .before .before .args in
-    c .last-of .ensures ∙ ap (λ name. lastWhere (named (a .s .now) name) (a .i)) (c .before .name-at .ensures)
+    c .last-of .ensures ∙ ap (λ name. lastWhere (named (a .s .now) name) (a .i)) (c .before .name-at .ensures .bytes)
 
 returns : tie.Need-returns
 returns c =

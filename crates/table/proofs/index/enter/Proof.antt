@@ -8,13 +8,13 @@ use lib.ListN.{length}
 use Rattle.record.specs.Places.{recordAt}
 use Rattle.table.specs.Index.{bucketOf}
 use Rattle.table.proofs.Last.{bucket-lt}
-use Rattle.table.proofs.Walk.{index-more}
+use Rattle.table.proofs.Walk.{index-more, unlinked-more}
 use Rattle.table.proofs.index.enter.Statement.{statement}
 use Rattle.table.proofs.index.enter.Tie as tie
 
 -- the bucket is that of the record's name, and one of the index
 bucket-is : (c : tie.After-bucket) → let a = c .before .before .before .before .before .args in c .bucket .result ≡ bucketOf (recordAt (a .s .now) (a .i) .name)
-bucket-is c = c .bucket .ensures ∙ ap bucketOf (c .before .name-at .ensures)
+bucket-is c = c .bucket .ensures ∙ ap bucketOf (c .before .name-at .ensures .bytes)
 
 in-width : (c : tie.After-bucket) → let a = c .before .before .before .before .before .args in c .bucket .result < length (a .first .now)
 in-width c =
@@ -24,8 +24,11 @@ in-width c =
 returns : tie.Need-returns
 returns c =
     let a = c .before .before .before .before .before .before in
-    rw (add-one (a .args .i))
-    (index-more (a .args .s .now) (a .args .i) (a .args .first .now) (a .args .next .now) (a .pre .0) (a .pre .1) (a .pre .2) (c .before .bucket .result) (bucket-is (c .before)))
+    let here = bucket-is (c .before) in
+    rw (add-one (a .args .i)) (
+      index-more (a .args .s .now) (a .args .i) (a .args .first .now) (a .args .next .now) (a .pre .0) (a .pre .1) (a .pre .2) _ here,
+      unlinked-more (a .args .s .now) (a .args .i) (a .args .first .now) (a .args .next .now) (a .pre .0) (a .pre .1) (a .pre .2) _ here (a .pre .3),
+    )
 
 pub enter-spec : {M : Type 1} → statement M
 enter-spec =

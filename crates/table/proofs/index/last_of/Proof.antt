@@ -43,7 +43,7 @@ compared : (c : tie.After-same Inv-loop μ-loop) → let at = c .before .before 
     same (recordAt (a .s .now) (at .loop .at - 1) .name) (a .name .now) ≡ c .same .result
 compared c =
     let a = c .before .before .before .before .before .before .before .before .before .before .args in
-    sym (c .same .ensures ∙ ap (λ x. same x (a .name .now)) (c .before .name-at .ensures))
+    sym (c .same .ensures ∙ ap (λ x. same x (a .name .now)) (c .before .name-at .ensures .bytes))
 
 returns : tie.Need-returns Inv-loop μ-loop
 returns c =

@@ -1,0 +1,2 @@
+-- What the contracts of functions that hand back a part of what they are lent cite.
+pub mod Part
