@@ -26,5 +26,6 @@ pub mod Effect
 pub mod Level
 pub mod Answer
 pub mod Program
+pub mod Rows
 pub mod Arrow
 pub mod Refusals
