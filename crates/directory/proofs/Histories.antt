@@ -19,7 +19,7 @@ use Rattle.paper.specs.Fields.{isName}
 use Rattle.paper.specs.Shows.{inAll, Asked, missing, itemField, Proof, labelAt, epochAt}
 use Rattle.paper.specs.History.{historyAsked, historyField, historyStrings, checkHistory}
 use Rattle.paper.specs.Table.{Record, headAt, allAt}
-use Rattle.paper.specs.Write.{itemOf, versionsBy, leavesAt, unclashed, historyProof, writeHistory}
+use Rattle.paper.specs.Write.{Wrote, itemOf, versionsBy, leavesAt, unclashed, historyProof, writeHistory}
 use Rattle.paper.specs.Left.{Left}
 use Rattle.paper.specs.Arrow.{toldAt, toldBy, told, Collision}
 use Rattle.paper.specs.declared.State.{State}
@@ -34,12 +34,13 @@ use Rattle.paper.proofs.Fit.{head-fit, item-fit, proof-fit}
 use Rattle.paper.proofs.Records.{versions-run, runs-at}
 use Rattle.paper.proofs.Leaves.{RecordFits, own-in, version-leaf}
 use Rattle.paper.proofs.Complete.{Clear, clear, shows-leaf, paths-fit}
+use Rattle.paper.proofs.Writers.{answered}
 use Rattle.paper.proofs.Demand2.{history-accepted}
 use Rattle.directory.specs.Own.{directory, tells, ownHistory, historyAnswer}
 use Rattle.directory.specs.Clash.{labelStrings}
 use Rattle.paper.proofs.Standing.{Standing}
 use Rattle.directory.proofs.Standing.{left-stands}
-use Rattle.directory.proofs.Writers.{answers, Wrote, answered}
+use Rattle.directory.proofs.Writers.{answers}
 use Rattle.directory.proofs.Clashes.{few, Telling, gone-or-collide}
 
 -- two lists by their elements: one counted from a on, the other as it stands
@@ -140,8 +141,8 @@ module _ (lab : Labelling) (sized : Sized lab) {records heads : Bytes} {state : 
     -- ---- what the writer wrote
 
     module _ (n : ℕ) (s : State) (written : writeHistory lab records heads state out name t .answer ≡ W.Written n s) where
-      pub history-wrote : Wrote lab records heads state rs out (isName name) t (λ rs. unclashed lab name t rs (historyAsked (length (versionsBy lab name t rs)) t)) (λ rs. historyField .bytes (historyProof lab name t rs heads)) n
-      history-wrote = answered lab records heads state rs out (isName name) t _ _ stands n s written
+      pub history-wrote : Wrote lab records heads state out (isName name) t (λ rs. unclashed lab name t rs (historyAsked (length (versionsBy lab name t rs)) t)) (λ rs. historyField .bytes (historyProof lab name t rs heads)) rs n
+      history-wrote = answered lab records heads state out (isName name) t _ _ rs (stands .read) n s written
 
       -- "every .. history .. is accepted at its epoch's head, with the directory's own answer"
       pub history-kept : checkHistory lab (headAt heads t) name (take n (writeHistory lab records heads state out name t .out)) ≡ historyAnswer lab name t rs heads

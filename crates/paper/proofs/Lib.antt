@@ -41,6 +41,7 @@ pub mod Changes
 pub mod HeadChain
 pub mod Standing
 pub mod Demand2
+pub mod Writers
 pub mod Private
 pub mod Arrow
 pub mod Rows
