@@ -11,7 +11,7 @@ use Rattle.fips.specs.Sha256.{sha256}
 use Rattle.paper.specs.Lists.{_∈_, All, upFrom}
 use Rattle.paper.specs.Bytes.{Bytes, pasted}
 use Rattle.paper.specs.Strings.{leaf, commitmentString}
-use Rattle.paper.specs.Labelling.{Labelling, Sized}
+use Rattle.paper.specs.Labelling.{Labelling, Sized, Telling}
 use Rattle.paper.specs.Layout.{got, parse}
 use Rattle.paper.specs.Path.{Path, way, epochOf}
 use Rattle.paper.specs.Tree.{root}
@@ -41,7 +41,7 @@ use Rattle.directory.specs.Clash.{labelStrings}
 use Rattle.paper.proofs.Standing.{Standing}
 use Rattle.directory.proofs.Standing.{left-stands}
 use Rattle.directory.proofs.Writers.{answers}
-use Rattle.directory.proofs.Clashes.{few, Telling, gone-or-collide}
+use Rattle.directory.proofs.Clashes.{few, gone-or-collide}
 
 -- two lists by their elements: one counted from a on, the other as it stands
 map-up : {B : Type 0} (f : ℕ → B) (g : Record → B) (d : Record) (a : ℕ) (l : List Record) → ((j : ℕ) → j < length l → f (a + j) ≡ g (getD l j d)) → map f (upFrom a (length l)) ≡ map g l

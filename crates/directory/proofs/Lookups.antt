@@ -8,7 +8,7 @@ use native.Mathlib.Omega.{arith}
 use lib.ListN.{length, take}
 use Rattle.paper.specs.Lists.{_∈_}
 use Rattle.paper.specs.Bytes.{Bytes, pasted}
-use Rattle.paper.specs.Labelling.{Labelling, Sized}
+use Rattle.paper.specs.Labelling.{Labelling, Sized, Telling}
 use Rattle.paper.specs.Fields.{isName}
 use Rattle.paper.specs.Shows.{Asked, Proof}
 use Rattle.paper.specs.Lookup.{lookupAsked, lookupField, lookupStrings, lookupGives, checkLookup, acceptedKey}
@@ -33,7 +33,7 @@ use Rattle.directory.specs.Clash.{labelStrings}
 use Rattle.paper.proofs.Standing.{Standing}
 use Rattle.directory.proofs.Standing.{left-stands}
 use Rattle.directory.proofs.Writers.{answers}
-use Rattle.directory.proofs.Clashes.{Telling, gone-or-collide}
+use Rattle.directory.proofs.Clashes.{gone-or-collide}
 
 -- ---- the last of a name's records
 

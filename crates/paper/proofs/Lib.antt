@@ -13,6 +13,7 @@ pub mod Order
 pub mod Step
 pub mod Chain
 pub mod Collide
+pub mod Labelling
 pub mod Sizes
 pub mod Shown
 pub mod Agree
