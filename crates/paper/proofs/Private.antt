@@ -1,7 +1,7 @@
 -- "A lookup's version, epoch, key and opening depend only on that name's own records and the epoch asked". Assumes nothing.
 use mathlib.Core.Path.{_≡_, refl, sym, ap, _∙_, subst}
 use mathlib.Core.Logic.{inl, inr}
-use mathlib.Core.Bool.{Bool, true, false≢true}
+use mathlib.Core.Bool.{true, false≢true}
 use mathlib.Core.List.{List, [], _∷_}
 use Prim.Native.Nat.{ℕ, zero, suc, _*_, _^_, _≤_, _<_}
 use native.Mathlib.Omega.{arith}
@@ -48,11 +48,11 @@ last-items (r ∷ []) = refl
 last-items (r ∷ q ∷ l) = last-items (q ∷ l)
 
 -- the record itself
-pub record Last (l : List Record) : Type 0 where
-  pub it : Record
-  pub mine : it ∈ l
-  pub version : it .version ≡ lastVersion l
-  pub epoch : it .epoch ≡ lastSays l .epoch
+record Last (l : List Record) : Type 0 where
+  it : Record
+  mine : it ∈ l
+  version : it .version ≡ lastVersion l
+  epoch : it .epoch ≡ lastSays l .epoch
 
 last : (r : Record) (l : List Record) → Last (r ∷ l)
 unfolding lastSays lastVersion

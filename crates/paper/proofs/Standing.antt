@@ -1,39 +1,22 @@
--- What completeness asks of a directory: its records are read back, they fit and are in shape, its heads are those of its records, and no
--- two leaves share a label. Start and publishing keep all of it. Assumes nothing.
+-- What start and publishings keep is a directory that stands. Assumes nothing.
 use mathlib.Core.Path.{_≡_}
 use mathlib.Core.Bool.{true}
-use mathlib.Core.List.{List, []}
 use Prim.Native.Nat.{ℕ, zero, suc, _*_, _/_, _%_, _≤_}
 use native.Mathlib.Omega.{arith}
 use lib.Dec.{eqb, leb}
 use lib.ListN.{length, drop, length-drop}
 use lib.Seq.{length-take-le}
 use borrow.Author.Tests.{leb-true}
-use Rattle.paper.specs.Lists.{All}
 use Rattle.paper.specs.Numbers.{wide, recordSize, recordsMost, headsMost}
 use Rattle.paper.specs.Bytes.{Bytes, Bytewise}
 use Rattle.paper.specs.Labelling.{Labelling}
-use Rattle.paper.specs.Layout.{got}
-use Rattle.paper.specs.Table.{Record, recordsWithin, headsWithin, headAt, counted, inShape, allAt, oldAt, previousHead, headDigest, distinct}
+use Rattle.paper.specs.Table.{recordsWithin, headsWithin, headAt, previousHead}
 use Rattle.paper.specs.declared.State.{State}
+pub use Rattle.paper.specs.Standing.{Standing}
 use Rattle.paper.proofs.Lists.{all-in, in-all, all-take, all-drop, and-right}
 use Rattle.paper.proofs.Fits.{Wide}
-use Rattle.paper.proofs.Leaves.{RecordFits, record-fits, zeros-wide}
+use Rattle.paper.proofs.Leaves.{record-fits, zeros-wide}
 use Rattle.paper.proofs.Kept.{Kept}
-
-pub record Standing (lab : Labelling) (records heads : Bytes) (state : State) (rs : List Record) : Type 0 where
-  pub read : counted records (state .count) ≡ got rs []
-  pub fits : All RecordFits rs
-  pub few : length rs ≤ recordsMost
-  pub shape : inShape lab (state .epoch) [] rs ≡ true
-  pub records-within : recordsWithin records ≡ true
-  pub heads-within : headsWithin heads ≡ true
-  pub lies : suc (state .epoch) * wide ≤ length heads
-  pub epochs : suc (state .epoch) ≤ headsMost
-  pub head-is : (t : ℕ) → t ≤ state .epoch → headAt heads t ≡ headDigest lab heads t rs
-  pub previous : (t : ℕ) → t ≤ state .epoch → Wide (previousHead heads t)
-  pub all-distinct : (t : ℕ) → t ≤ state .epoch → distinct (allAt lab t rs) ≡ true
-  pub old-distinct : (t : ℕ) → t ≤ state .epoch → distinct (oldAt lab t rs) ≡ true
 
 -- heads that lie in a head table are few, and the previous head of each epoch up to the current one has 32 bytes
 module _ (heads : Bytes) (epoch : ℕ) (lies : suc epoch * wide ≤ length heads) where

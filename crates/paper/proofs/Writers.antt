@@ -3,7 +3,7 @@ use mathlib.Core.Path.{_≡_, sym, ap, _∙_}
 use mathlib.Core.Logic.{⊎-elim}
 use mathlib.Core.Bool.{Bool, true, _&&_}
 use mathlib.Core.List.{List, []}
-use Prim.Native.Nat.{ℕ, _+_, _≤_}
+use Prim.Native.Nat.{ℕ, _+_}
 use native.Mathlib.Omega.{arith}
 use lib.Dec.{leb}
 use lib.ListN.{length, take, drop}
@@ -17,7 +17,7 @@ use Rattle.paper.specs.Write.{Written, Wrote, unwritten, writeRead, writ
 use Rattle.paper.specs.declared.State.{State}
 use Rattle.paper.specs.declared.WriteAnswer.the-variants as W
 use Rattle.paper.proofs.Lists.{and-left, and-right}
-use Rattle.paper.proofs.Verdicts.{Hold, verdict-cases}
+use Rattle.paper.proofs.Verdicts.{verdict-cases}
 
 module _ (lab : Labelling) (records heads : Bytes) (state : State) (out : Bytes) (input : Bool) (t : ℕ) (clear : List Record → Bool) (proof : List Record → Bytes) where
   abbrev left : Written

@@ -21,6 +21,7 @@ pub mod Publish
 pub mod Write
 pub mod Private
 pub mod Left
+pub mod Standing
 pub mod HeadChain
 pub mod Effect
 pub mod Level
