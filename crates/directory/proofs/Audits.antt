@@ -13,6 +13,7 @@ use Rattle.paper.specs.Audit.{auditField, auditStrings, checkAudit}
 use Rattle.paper.specs.Table.{Record, headAt, allAt, oldAt, distinct}
 use Rattle.paper.specs.Write.{Wrote, auditProof, writeAudit}
 use Rattle.paper.specs.Left.{Left}
+use Rattle.paper.specs.Standing.{Standing}
 use Rattle.paper.specs.declared.State.{State}
 use Rattle.paper.specs.declared.WriteAnswer.the-variants as W
 use Rattle.paper.specs.declared.AuditAnswer.the-variants as A
@@ -20,7 +21,6 @@ use Rattle.paper.proofs.Lists.{and-both}
 use Rattle.paper.proofs.Writers.{answered}
 use Rattle.paper.proofs.Demand2.{audit-accepted}
 use Rattle.directory.specs.Own.{directory, auditAnswer}
-use Rattle.paper.proofs.Standing.{Standing}
 use Rattle.directory.proofs.Standing.{left-stands}
 use Rattle.directory.proofs.Writers.{answers}
 

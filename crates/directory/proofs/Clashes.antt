@@ -20,13 +20,14 @@ use Rattle.paper.specs.Shows.{Place, inAll, inOld, asMarker, kindOf, numberOf, 
 use Rattle.paper.specs.Table.{Record, byEpoch, ownRecords, leafOf, allLeaves, oldLeaves, allAt, oldAt, inShape, holds}
 use Rattle.paper.specs.Write.{versionsBy, leavesAt}
 use Rattle.paper.specs.Arrow.{Collision}
+use Rattle.paper.specs.Standing.{RecordFits}
 use Rattle.paper.proofs.Lists.{all-in, in-all, all-every, in-left, in-right, in-keep, keep-in}
 use Rattle.paper.proofs.Bytes.{eq-same}
 use Rattle.paper.proofs.Marker.{log2-spec, pow-below}
 use Rattle.paper.proofs.Honest.{not-held}
 use Rattle.paper.proofs.Asked.{Gone, later, last, above, Only, a-version, an-old, a-marker, not-there}
 use Rattle.paper.proofs.Records.{versions-run, runs-most}
-use Rattle.paper.proofs.Leaves.{RecordFits, runs-few, in-flat, all-flat}
+use Rattle.paper.proofs.Leaves.{runs-few, in-flat, all-flat}
 use Rattle.paper.proofs.Collide.{OneToOne, collide-or-not}
 use Rattle.paper.proofs.Labelling.{label-tells, other-kind}
 use Rattle.directory.specs.Clash.{recordStrings, askedStrings, labelStrings}

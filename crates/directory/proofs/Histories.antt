@@ -22,6 +22,7 @@ use Rattle.paper.specs.Table.{Record, headAt, allAt}
 use Rattle.paper.specs.Write.{Wrote, itemOf, versionsBy, leavesAt, unclashed, historyProof, writeHistory}
 use Rattle.paper.specs.Left.{Left}
 use Rattle.paper.specs.Arrow.{toldAt, toldBy, told, Collision}
+use Rattle.paper.specs.Standing.{Standing, RecordFits}
 use Rattle.paper.specs.declared.State.{State}
 use Rattle.paper.specs.declared.WriteAnswer.the-variants as W
 use Rattle.paper.specs.declared.HistoryAnswer.the-variants as H
@@ -32,13 +33,12 @@ use Rattle.paper.proofs.Proofs.{history-lawful}
 use Rattle.paper.proofs.Fits.{digest-wide, ProofFits}
 use Rattle.paper.proofs.Fit.{head-fit, item-fit, proof-fit}
 use Rattle.paper.proofs.Records.{versions-run, runs-at}
-use Rattle.paper.proofs.Leaves.{RecordFits, own-in, version-leaf}
+use Rattle.paper.proofs.Leaves.{own-in, version-leaf}
 use Rattle.paper.proofs.Complete.{Clear, clear, shows-leaf, paths-fit}
 use Rattle.paper.proofs.Writers.{answered}
 use Rattle.paper.proofs.Demand2.{history-accepted}
 use Rattle.directory.specs.Own.{directory, tells, ownHistory, historyAnswer}
 use Rattle.directory.specs.Clash.{labelStrings}
-use Rattle.paper.proofs.Standing.{Standing}
 use Rattle.directory.proofs.Standing.{left-stands}
 use Rattle.directory.proofs.Writers.{answers}
 use Rattle.directory.proofs.Clashes.{few, gone-or-collide}

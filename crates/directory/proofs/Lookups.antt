@@ -16,21 +16,21 @@ use Rattle.paper.specs.Table.{Record, headAt, lastVersion}
 use Rattle.paper.specs.Write.{Wrote, itemOf, lastItem, versionsBy, unclashed, lookupProof, writeLookup}
 use Rattle.paper.specs.Left.{Left}
 use Rattle.paper.specs.Arrow.{lastTold, Collision}
+use Rattle.paper.specs.Standing.{Standing, RecordFits}
+use Rattle.paper.specs.Strings.{HeadSized}
 use Rattle.paper.specs.declared.State.{State}
 use Rattle.paper.specs.declared.WriteAnswer.the-variants as W
 use Rattle.paper.proofs.Lists.{all-in, and-both}
-use Rattle.paper.proofs.Strings.{HeadSized}
 use Rattle.paper.proofs.Fits.{head-fits, digest-wide}
 use Rattle.paper.proofs.Asked.{Only, lookup-only}
 use Rattle.paper.proofs.Records.{versions-run, run-count}
 use Rattle.paper.proofs.Fit.{head-fit}
-use Rattle.paper.proofs.Leaves.{RecordFits, own-in}
+use Rattle.paper.proofs.Leaves.{own-in}
 use Rattle.paper.proofs.Writers.{answered}
 use Rattle.paper.proofs.Demand2.{lookup-accepted}
 use Rattle.paper.proofs.KeyPart.{key-accepted}
 use Rattle.directory.specs.Own.{directory, tells, ownHistory, ownLookup, lookupAnswer}
 use Rattle.directory.specs.Clash.{labelStrings}
-use Rattle.paper.proofs.Standing.{Standing}
 use Rattle.directory.proofs.Standing.{left-stands}
 use Rattle.directory.proofs.Writers.{answers}
 use Rattle.directory.proofs.Clashes.{gone-or-collide}

@@ -13,11 +13,11 @@ use Rattle.paper.specs.Labelling.{Labelling}
 use Rattle.paper.specs.Layout.{got}
 use Rattle.paper.specs.Table.{Record, recordsWithin, headsWithin, counted, headLies, inShape}
 use Rattle.paper.specs.Write.{writeRead, writeWith}
+use Rattle.paper.specs.Standing.{Standing}
 use Rattle.paper.specs.declared.State.{State}
 use Rattle.paper.specs.declared.WriteAnswer.the-variants as W
 use Rattle.paper.proofs.Lists.{and-both}
 use Rattle.paper.proofs.Verdicts.{verdict-all}
-use Rattle.paper.proofs.Standing.{Standing}
 
 module _ (lab : Labelling) (records heads : Bytes) (state : State) (rs : List Record) (out : Bytes) (input : Bool) (t : ℕ) (clear : List Record → Bool) (proof : List Record → Bytes)
     (stands : Standing lab records heads state rs) where
