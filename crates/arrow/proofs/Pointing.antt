@@ -8,7 +8,7 @@ use lib.Dec.{eqb}
 use borrow.Author.Tests.{eqb-true, eq-eqb, ne-eqb}
 use Rattle.paper.specs.Lists.{All}
 use Rattle.paper.specs.Bytes.{Bytes, Bytewise}
-use Rattle.paper.specs.Labelling.{Labelling, Sized}
+use Rattle.paper.specs.Labelling.{Labelling, Tied}
 use Rattle.paper.specs.Lookup.{checkLookup}
 use Rattle.paper.specs.History.{checkHistory}
 use Rattle.paper.specs.Audit.{checkAudit}
@@ -22,7 +22,7 @@ audited : (d : Bytes) (steps : List AuditStep) → stepsAccepted d steps ≡ tru
 audited d [] e = refl
 audited d (s ∷ more) e = (eqb-true (auditNumber (checkAudit d (s .head) (s .proof))) 0 (and-left _ _ e), audited (s .head) more (and-right (eqb (auditNumber (checkAudit d (s .head) (s .proof))) 0) _ e))
 
-module _ (lab : Labelling) (sized : Sized lab) (d name lookup : Bytes) (steps : List AuditStep) (history : Bytes) where
+module _ (lab : Labelling) (tied : Tied lab) (d name lookup : Bytes) (steps : List AuditStep) (history : Bytes) where
   abbrev L : ℕ
   L = lookupNumber (checkLookup lab d name lookup)
 
@@ -34,7 +34,7 @@ module _ (lab : Labelling) (sized : Sized lab) (d name lookup : Bytes) (steps : 
   unfolding allAccepted
   accepted-agrees lb sb hb e =
       let f = and-right (eqb L 0) _ e in
-      demand-3 lab sized name d (lastHead d steps) lookup history steps lb sb hb
+      demand-3 lab tied name d (lastHead d steps) lookup history steps lb sb hb
       (eqb-true _ 0 (and-left _ _ e)) (audited d steps (and-left _ _ f)) (eqb-true _ 0 (and-right (stepsAccepted d steps) _ f))
 
   -- so an answer that is the Boolean says it

@@ -13,7 +13,7 @@ use Rattle.paper.specs.Bytes.{Bytes, zeros}
 use Rattle.paper.specs.Bits.{bitsOf, log2}
 use Rattle.fips.specs.Sha256.{sha256}
 use Rattle.paper.specs.Strings.{Kind, version, marker, kindByte, Node, commitmentString}
-use Rattle.paper.specs.Labelling.{Labelling, sameName}
+use Rattle.paper.specs.Labelling.{Labelling, sameName, Telling}
 use Rattle.paper.specs.Tree.{key}
 use Rattle.paper.specs.Table.{Record, byEpoch, ownRecords, inShape, leafOf, allLeaves, oldLeaves, allAt, oldAt, distinct}
 use Rattle.paper.specs.Arrow.{Collision}
@@ -23,8 +23,9 @@ use Rattle.paper.proofs.Honest.{not-held}
 use Rattle.paper.proofs.Records.{Runs, own-cons, versions-run, runs-above}
 use Rattle.paper.proofs.Leaves.{in-flat, all-flat}
 use Rattle.paper.proofs.Collide.{OneToOne, collide-or-not}
+use Rattle.paper.proofs.Labelling.{label-tells, other-kind}
 use Rattle.directory.specs.Clash.{recordStrings, treeStrings}
-use Rattle.directory.proofs.Clashes.{Telling, by-in, in-own, other-kind, small-log}
+use Rattle.directory.proofs.Clashes.{by-in, in-own, small-log}
 
 -- ---- leaves that differ in their labels, pair by pair
 
@@ -95,7 +96,7 @@ module _ (lab : Labelling) where
 
     apart : (W : Kind → ℕ → ℕ) (r q : Record) → ¬ ((lab .person (q .name) ≡ lab .person (r .name)) × (q .version ≡ r .version)) → (x y : Node) → Of W r x → Of W q y → ¬ (key y ≡ key x)
     apart W r q n x y o p e =
-        let (k, m, z) = telling .parts U one (p .kind) (o .kind) (p .number) (o .number) (lab .person (q .name)) (lab .person (r .name)) (p .small) (o .small) (p .there) (o .there) (sym (p .is) ∙ e ∙ o .is) in
+        let (k, m, z) = label-tells telling U one (p .kind) (o .kind) (p .number) (o .number) (lab .person (q .name)) (lab .person (r .name)) (p .small) (o .small) (p .there) (o .there) (sym (p .is) ∙ e ∙ o .is) in
         n (z, p .told ∙ ap₂ W k m ∙ sym (o .told))
 
     flat : (W : Kind → ℕ → ℕ) (f : Record → List Node) (l : List Record) → Parted l → ((r : Record) → r ∈ l → All (Of W r) (f r) × Differ (f r)) → Differ (flatMap f l)
@@ -140,7 +141,7 @@ module _ (lab : Labelling) where
       marker-apart c u e =
           let v : All (λ s. s ∈ U) (its version (r .version)) = all-left (λ s. s ∈ U) (its version (r .version)) _ u in
           let m : All (λ s. s ∈ U) (its marker (log2 (r .version))) = all-left (λ s. s ∈ U) (its marker (log2 (r .version))) _ (all-right (λ s. s ∈ U) (its version (r .version)) _ u) in
-          other-kind (sym (ap kindByte (telling .parts U one marker version (log2 (r .version)) (r .version) (lab .person (r .name)) (lab .person (r .name)) (omega (arith, small-log (r .version) most)) (omega (arith, most)) m v e .0)))
+          other-kind (sym (ap kindByte (label-tells telling U one marker version (log2 (r .version)) (r .version) (lab .person (r .name)) (lab .person (r .name)) (omega (arith, small-log (r .version) most)) (omega (arith, most)) m v e .0)))
 
       all-of : All (Of inAll r) (allLeaves lab r) × Differ (allLeaves lab r)
       unfolding allLeaves recordStrings version-leaf marker-leaf

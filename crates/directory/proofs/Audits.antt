@@ -11,17 +11,18 @@ use Rattle.paper.specs.Bytes.{Bytes, pasted}
 use Rattle.paper.specs.Labelling.{Labelling, Sized}
 use Rattle.paper.specs.Audit.{auditField, auditStrings, checkAudit}
 use Rattle.paper.specs.Table.{Record, headAt, allAt, oldAt, distinct}
-use Rattle.paper.specs.Write.{auditProof, writeAudit}
+use Rattle.paper.specs.Write.{Wrote, auditProof, writeAudit}
 use Rattle.paper.specs.Left.{Left}
+use Rattle.paper.specs.Standing.{Standing}
 use Rattle.paper.specs.declared.State.{State}
 use Rattle.paper.specs.declared.WriteAnswer.the-variants as W
 use Rattle.paper.specs.declared.AuditAnswer.the-variants as A
 use Rattle.paper.proofs.Lists.{and-both}
+use Rattle.paper.proofs.Writers.{answered}
 use Rattle.paper.proofs.Demand2.{audit-accepted}
 use Rattle.directory.specs.Own.{directory, auditAnswer}
-use Rattle.paper.proofs.Standing.{Standing}
 use Rattle.directory.proofs.Standing.{left-stands}
-use Rattle.directory.proofs.Writers.{answers, Wrote, answered}
+use Rattle.directory.proofs.Writers.{answers}
 
 module _ (lab : Labelling) (sized : Sized lab) {records heads : Bytes} {state : State} (left : Left lab records heads state) where
   abbrev rs : List Record
@@ -42,8 +43,8 @@ module _ (lab : Labelling) (sized : Sized lab) {records heads : Bytes} {state : 
     -- ---- what the writer wrote
 
     module _ (n : ℕ) (s : State) (written : writeAudit lab records heads state out t .answer ≡ W.Written n s) where
-      pub audit-wrote : Wrote lab records heads state rs out (leb 1 t) t (λ rs. distinct (allAt lab (t - 1) rs) && (distinct (oldAt lab (t - 1) rs) && (distinct (allAt lab t rs) && distinct (oldAt lab t rs)))) (λ rs. auditField .bytes (auditProof lab heads t rs)) n
-      audit-wrote = answered lab records heads state rs out (leb 1 t) t _ _ stands n s written
+      pub audit-wrote : Wrote lab records heads state out (leb 1 t) t (λ rs. distinct (allAt lab (t - 1) rs) && (distinct (oldAt lab (t - 1) rs) && (distinct (allAt lab t rs) && distinct (oldAt lab t rs)))) (λ rs. auditField .bytes (auditProof lab heads t rs)) rs n
+      audit-wrote = answered lab records heads state out (leb 1 t) t _ _ rs (stands .read) n s written
 
       -- "every .. audit proof .. is accepted at its epoch's head, with the directory's own answer"
       pub audit-kept : checkAudit (headAt heads (t - 1)) (headAt heads t) (take n (writeAudit lab records heads state out t .out)) ≡ auditAnswer lab t rs heads

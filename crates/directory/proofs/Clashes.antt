@@ -1,5 +1,5 @@
 -- What a proof is to show absent is not there, unless two different label strings have one digest. Assumes nothing.
-use mathlib.Core.Path.{_≡_, refl, sym, ap, _∙_, subst}
+use mathlib.Core.Path.{_≡_, refl, sym, ap, subst}
 use mathlib.Core.Logic.{_⊎_, inl, inr, ⊎-elim}
 use mathlib.Core.Bool.{Bool, true, false, cond, not, _||_}
 use mathlib.Core.List.{List, [], _∷_, _++_, flatMap}
@@ -13,49 +13,24 @@ use Rattle.paper.specs.Lists.{_∈_, All, every}
 use Rattle.paper.specs.Numbers.{wide, versionMost}
 use Rattle.paper.specs.Bytes.{Bytes, zeros}
 use Rattle.paper.specs.Bits.{bitsOf, topPower, log2}
-use Rattle.paper.specs.Strings.{Kind, version, marker, kindByte, labelString}
-use Rattle.paper.specs.Labelling.{Labelling, sameName, plain}
+use Rattle.paper.specs.Strings.{Kind, version, marker, kindByte}
+use Rattle.paper.specs.Labelling.{Labelling, sameName, Telling}
 use Rattle.paper.specs.Tree.{key}
 use Rattle.paper.specs.Shows.{Place, inAll, inOld, asMarker, kindOf, numberOf, Asked, missing, labelAt}
 use Rattle.paper.specs.Table.{Record, byEpoch, ownRecords, leafOf, allLeaves, oldLeaves, allAt, oldAt, inShape, holds}
 use Rattle.paper.specs.Write.{versionsBy, leavesAt}
 use Rattle.paper.specs.Arrow.{Collision}
+use Rattle.paper.specs.Standing.{RecordFits}
 use Rattle.paper.proofs.Lists.{all-in, in-all, all-every, in-left, in-right, in-keep, keep-in}
-use Rattle.paper.proofs.Bytes.{eq-same, bitsOf-inj}
-use Rattle.paper.proofs.Strings.{label-inj}
-use Rattle.paper.proofs.Fits.{digest-wide}
+use Rattle.paper.proofs.Bytes.{eq-same}
 use Rattle.paper.proofs.Marker.{log2-spec, pow-below}
 use Rattle.paper.proofs.Honest.{not-held}
 use Rattle.paper.proofs.Asked.{Gone, later, last, above, Only, a-version, an-old, a-marker, not-there}
 use Rattle.paper.proofs.Records.{versions-run, runs-most}
-use Rattle.paper.proofs.Leaves.{RecordFits, runs-few, in-flat, all-flat}
+use Rattle.paper.proofs.Leaves.{runs-few, in-flat, all-flat}
 use Rattle.paper.proofs.Collide.{OneToOne, collide-or-not}
+use Rattle.paper.proofs.Labelling.{label-tells, other-kind}
 use Rattle.directory.specs.Clash.{recordStrings, askedStrings, labelStrings}
-
--- ---- a label tells kind, number and name, where no two strings of a list have one digest
-
-pub record Telling (lab : Labelling) : Type 0 where
-  pub parts : (U : List Bytes) → OneToOne U → (k l : Kind) (n m : ℕ) (a b : Bytes) → n < 2 ^ 16 → m < 2 ^ 16
-      → All (λ s. s ∈ U) (lab .strings k n a) → All (λ s. s ∈ U) (lab .strings l m b) → bitsOf (lab .label k n a) ≡ bitsOf (lab .label l m b)
-      → (k ≡ l) × (n ≡ m) × (a ≡ b)
-
-pub other-kind : {A : Type 0} → kindByte version ≡ kindByte marker → A
-other-kind e = absurd (omega (arith, e))
-
-kind-inj : (k l : Kind) → kindByte k ≡ kindByte l → k ≡ l
-kind-inj version version e = refl
-kind-inj version marker e = other-kind e
-kind-inj marker version e = other-kind (sym e)
-kind-inj marker marker e = refl
-
-pub plain-tells : Telling plain
-plain-tells = record {
-  parts = λ U f k l n m a b p q i j e.
-      let x = digest-wide (labelString (kindByte k) n a) in
-      let y = digest-wide (labelString (kindByte l) m b) in
-      let s = bitsOf-inj _ _ (x .bytes) (y .bytes) (x .size ∙ sym (y .size)) e in
-      let (c, d, z) = label-inj p q (f _ _ (i .0) (j .0) s) in (kind-inj k l c, d, z);
-}
 
 -- ---- records by an epoch, and a name's own
 
@@ -135,7 +110,7 @@ module _ (lab : Labelling) (name : Bytes) (t c : ℕ) (rs : List Record) (fits :
         (λ s j. in-right s A B (in-flat (recordStrings lab) (byEpoch t rs) r s i (all-in (λ s. s ∈ recordStrings lab r) (its r k n) there s j))) in
         let w : All (λ s. s ∈ labelStrings lab name t rs asked) (askedStrings lab name (missing x)) =
         in-all (λ s. s ∈ labelStrings lab name t rs asked) (askedStrings lab name (missing x)) (λ s j. in-left s A B (in-flat (askedStrings lab name) asked (missing x) s m j)) in
-        let (a, b, p) = telling .parts (labelStrings lab name t rs asked) one k (kindOf x) n (numberOf x) (lab .person (r .name)) (lab .person name) h small v w e in
+        let (a, b, p) = label-tells telling (labelStrings lab name t rs asked) one k (kindOf x) n (numberOf x) (lab .person (r .name)) (lab .person name) h small v w e in
         (a, b, own-most r (in-own lab name (byEpoch t rs) r i p))
 
     none-in-all : ((r : Record) → RecordFits r → ¬ ((version ≡ kindOf x) × (r .version ≡ numberOf x) × (r .version ≤ length mine)))

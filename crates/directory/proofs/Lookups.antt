@@ -8,31 +8,32 @@ use native.Mathlib.Omega.{arith}
 use lib.ListN.{length, take}
 use Rattle.paper.specs.Lists.{_∈_}
 use Rattle.paper.specs.Bytes.{Bytes, pasted}
-use Rattle.paper.specs.Labelling.{Labelling, Sized}
+use Rattle.paper.specs.Labelling.{Labelling, Sized, Telling}
 use Rattle.paper.specs.Fields.{isName}
 use Rattle.paper.specs.Shows.{Asked, Proof}
 use Rattle.paper.specs.Lookup.{lookupAsked, lookupField, lookupStrings, lookupGives, checkLookup, acceptedKey}
 use Rattle.paper.specs.Table.{Record, headAt, lastVersion}
-use Rattle.paper.specs.Write.{itemOf, lastItem, versionsBy, unclashed, lookupProof, writeLookup}
+use Rattle.paper.specs.Write.{Wrote, itemOf, lastItem, versionsBy, unclashed, lookupProof, writeLookup}
 use Rattle.paper.specs.Left.{Left}
 use Rattle.paper.specs.Arrow.{lastTold, Collision}
+use Rattle.paper.specs.Standing.{Standing, RecordFits}
+use Rattle.paper.specs.Strings.{HeadSized}
 use Rattle.paper.specs.declared.State.{State}
 use Rattle.paper.specs.declared.WriteAnswer.the-variants as W
 use Rattle.paper.proofs.Lists.{all-in, and-both}
-use Rattle.paper.proofs.Strings.{HeadSized}
 use Rattle.paper.proofs.Fits.{head-fits, digest-wide}
 use Rattle.paper.proofs.Asked.{Only, lookup-only}
 use Rattle.paper.proofs.Records.{versions-run, run-count}
 use Rattle.paper.proofs.Fit.{head-fit}
-use Rattle.paper.proofs.Leaves.{RecordFits, own-in}
+use Rattle.paper.proofs.Leaves.{own-in}
+use Rattle.paper.proofs.Writers.{answered}
 use Rattle.paper.proofs.Demand2.{lookup-accepted}
 use Rattle.paper.proofs.KeyPart.{key-accepted}
 use Rattle.directory.specs.Own.{directory, tells, ownHistory, ownLookup, lookupAnswer}
 use Rattle.directory.specs.Clash.{labelStrings}
-use Rattle.paper.proofs.Standing.{Standing}
 use Rattle.directory.proofs.Standing.{left-stands}
-use Rattle.directory.proofs.Writers.{answers, Wrote, answered}
-use Rattle.directory.proofs.Clashes.{Telling, gone-or-collide}
+use Rattle.directory.proofs.Writers.{answers}
+use Rattle.directory.proofs.Clashes.{gone-or-collide}
 
 -- ---- the last of a name's records
 
@@ -104,8 +105,8 @@ module _ (lab : Labelling) (sized : Sized lab) {records heads : Bytes} {state : 
     -- ---- what the writer wrote
 
     module _ (n : ℕ) (s : State) (written : writeLookup lab records heads state out name t .answer ≡ W.Written n s) where
-      pub lookup-wrote : Wrote lab records heads state rs out (isName name) t (λ rs. unclashed lab name t rs (lookupAsked (lastVersion (versionsBy lab name t rs)))) (λ rs. lookupField .bytes (lookupProof lab name t rs heads)) n
-      lookup-wrote = answered lab records heads state rs out (isName name) t _ _ stands n s written
+      pub lookup-wrote : Wrote lab records heads state out (isName name) t (λ rs. unclashed lab name t rs (lookupAsked (lastVersion (versionsBy lab name t rs)))) (λ rs. lookupField .bytes (lookupProof lab name t rs heads)) rs n
+      lookup-wrote = answered lab records heads state out (isName name) t _ _ rs (stands .read) n s written
 
       -- "every lookup .. written from tables and state that publishing left is accepted at its epoch's head, with the directory's own answer"
       pub lookup-kept : checkLookup lab (headAt heads t) name (take n (writeLookup lab records heads state out name t .out)) ≡ lookupAnswer lab name t rs heads

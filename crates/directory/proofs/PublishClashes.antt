@@ -11,7 +11,7 @@ use borrow.Author.Tests.{leb-true}
 use Rattle.paper.specs.Lists.{All, every}
 use Rattle.paper.specs.Numbers.{wide, versionMost, recordSize, updateSize, INPUT, TABLE, TWICE, FULL, CLASH}
 use Rattle.paper.specs.Bytes.{Bytes, Bytewise}
-use Rattle.paper.specs.Labelling.{Labelling}
+use Rattle.paper.specs.Labelling.{Labelling, Telling}
 use Rattle.paper.specs.Layout.{Read, got, bad, times, parse}
 use Rattle.paper.specs.Verdict.{Test, test}
 use Rattle.paper.specs.Table.{Record, Update, recordField, updateField, recordsWithin, headsWithin, counted, headLies, inShape, allAt, oldAt, distinct}
@@ -27,7 +27,6 @@ use Rattle.paper.proofs.Accepted.{whole-behind}
 use Rattle.paper.proofs.Leaves.{record-fits}
 use Rattle.paper.proofs.Shape.{published-shape}
 use Rattle.directory.specs.Clash.{PublishClash}
-use Rattle.directory.proofs.Clashes.{Telling}
 use Rattle.directory.proofs.Apart.{clear-or-collide}
 
 -- a test of another number is not the first that fails

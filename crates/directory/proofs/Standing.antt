@@ -3,8 +3,9 @@ use mathlib.Core.Path.{sym, ap, subst}
 use Rattle.paper.specs.Bytes.{Bytes}
 use Rattle.paper.specs.Labelling.{Labelling}
 use Rattle.paper.specs.Left.{Left}
+use Rattle.paper.specs.Standing.{Standing}
 use Rattle.paper.specs.declared.State.{State}
-use Rattle.paper.proofs.Standing.{Standing, kept-stands}
+use Rattle.paper.proofs.Standing.{kept-stands}
 use Rattle.paper.proofs.Published.{left-kept}
 use Rattle.directory.specs.Own.{recordsRead, directory}
 

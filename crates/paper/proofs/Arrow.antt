@@ -10,12 +10,11 @@ use native.Mathlib.Decide.{decLe}
 use lib.Dec.{leb}
 use lib.ListN.{length}
 use borrow.Author.Tests.{le-leb, lt-leb}
-use Rattle.fips.proofs.Size.{sha256-length}
 use Rattle.paper.specs.Lists.{All, keep, upFrom}
 use Rattle.paper.specs.Bytes.{Bytes, Bytewise}
 use Rattle.paper.specs.Bits.{Bits}
 use Rattle.paper.specs.Strings.{Head}
-use Rattle.paper.specs.Labelling.{Labelling, Sized, plain}
+use Rattle.paper.specs.Labelling.{Labelling, Tied, Sized}
 use Rattle.paper.specs.Layout.{parse}
 use Rattle.paper.specs.Shows.{Proof, Place, labelAt}
 use Rattle.paper.specs.Lookup.{lookupField, lookupAsked, lookupKeys, lookupTerms, lookupGives, lookupStrings, checkLookup, acceptedKey}
@@ -31,6 +30,7 @@ use Rattle.paper.proofs.Proofs.{lookup-lawful, history-lawful}
 use Rattle.paper.proofs.Fits.{proof-fits, head-fits}
 use Rattle.paper.proofs.Chain.{Hashed, Chain, here, more, stepsIn, chain-epochs}
 use Rattle.paper.proofs.Collide.{OneToOne, collide-or-not, hashedIn}
+use Rattle.paper.proofs.Labelling.{tied-sized}
 use Rattle.paper.proofs.Shown.{Within, label-size}
 use Rattle.paper.proofs.Agree.{Current, LookedUp, nobody, somebody, agree}
 use Rattle.paper.proofs.Accepted.{lookup-told, history-told, audit-told}
@@ -120,9 +120,12 @@ agreed a lookup steps b history q v t ev et now k n = record {
   epochs = ap (λ t. t + length steps) et ∙ n;
 }
 
-module _ (lab : Labelling) (sized : Sized lab) (name d d′ lookup history : Bytes) (steps : List AuditStep)
+module _ (lab : Labelling) (tied : Tied lab) (name d d′ lookup history : Bytes) (steps : List AuditStep)
     (lookup-bytes : Bytewise lookup) (steps-bytes : All (λ s. Bytewise (s .proof)) steps) (history-bytes : Bytewise history)
     (looked : lookupNumber (checkLookup lab d name lookup) ≡ 0) (audited : Audited d steps d′) (chronicled : historyNumber (checkHistory lab d′ name history) ≡ 0) where
+  sized : Sized lab
+  sized = tied-sized tied
+
   -- where no two strings of a list that holds all that was hashed collide
   agrees : (U : List Bytes) → OneToOne U → Within U (hashed lab name lookup steps history) → Agrees (checkLookup lab d name lookup) lookup steps (checkHistory lab d′ name history) history
   unfolding told
@@ -159,7 +162,3 @@ module _ (lab : Labelling) (sized : Sized lab) (name d d′ lookup history : Byt
   demand-3 =
       let U = hashed lab name lookup steps history in
       ⊎-elim inr (λ f. inl (agrees U f (in-all _ U (λ s m. m)))) (collide-or-not U)
-
--- the labelling of the base obeys what is asked of one
-pub plain-sized : Sized plain
-plain-sized = record { size = λ kind n name. sha256-length _ }

@@ -250,6 +250,11 @@ module _ (lab : Labelling) (sized : Sized lab) (name : Bytes) (t : ℕ) (rs : Li
           let n = run-count versions run in
           λ i. record { head = headOf lab heads t rs; number = n i; items = items-are i; paths = map pathFor (lookupAsked (n i)) }
 
+      pub lookup-in-layout : unclashed lab name t rs (lookupAsked (lastVersion versions)) ≡ true → lookupField .Fits (lookupProof lab name t rs heads)
+      lookup-in-layout u =
+          let c = clear (lookupAsked (length versions)) (subst (λ k. unclashed lab name t rs (lookupAsked k) ≡ true) (run-count versions run) u) in
+          subst (lookupField .Fits) (sym lookup-is) (proof-fit 1 lookupKeys (λ v t. lookupAsked v) (lookupOf (length versions)) (lookup-fits (length versions) refl c))
+
       -- "every lookup .. written from tables and state that publishing left is accepted at its epoch's head, with the directory's own answer"
       pub lookup-complete : isName name ≡ true → unclashed lab name t rs (lookupAsked (lastVersion versions)) ≡ true
           → checkLookup lab (headDigest lab heads t rs) name (lookupField .bytes (lookupProof lab name t rs heads))

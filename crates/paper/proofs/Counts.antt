@@ -9,20 +9,20 @@ use lib.ListN.{length, getD, length-append, length-map}
 use Rattle.paper.specs.Lists.{All}
 use Rattle.paper.specs.Bytes.{Bytes, Bytewise}
 use Rattle.paper.specs.Bits.{Bits}
-use Rattle.paper.specs.Strings.{Kind, nodeString, commitmentString}
-use Rattle.paper.specs.Labelling.{Labelling, plain}
+use Rattle.paper.specs.Strings.{nodeString, commitmentString}
+use Rattle.paper.specs.Labelling.{Labelling, Tied, plain}
 use Rattle.paper.specs.Path.{Step, End, Path, pathNodes}
 use Rattle.paper.specs.Layout.{Read, got, bad, parse}
 use Rattle.paper.specs.Fields.{pathField}
 use Rattle.paper.specs.Shows.{Asked, Proof, kindOf, numberOf, labelAt, pathStrings, proofStrings, proofTests, inputTests}
 use Rattle.paper.specs.Lookup.{lookupAsked, lookupKeys, lookupField, lookupStrings, lookupRead, lookupGives, lookupTerms, checkLookup}
-use Rattle.paper.specs.declared.LookupAnswer.{LookupAnswer}
 use Rattle.paper.specs.declared.LookupAnswer.the-variants.{Refused}
 use Rattle.paper.specs.Answer.{lookupValues}
 use Rattle.paper.proofs.Verdicts.{verdict-cases}
 use Rattle.paper.proofs.Layouts.{bytes-parse}
 use Rattle.paper.proofs.Proofs.{lookup-lawful}
 use Rattle.paper.proofs.Fits.{path-fits, proof-fits}
+use Rattle.paper.proofs.Labelling.{plain-tied}
 
 -- "m+2 for each path (its label, m nodes, its end)": m nodes and the end
 pub nodes-length : (L : Bits) (ss : List Step) (e : End) → length (pathNodes L ss e) ≡ suc (length ss)
@@ -30,8 +30,12 @@ unfolding pathNodes
 nodes-length L [] e = refl
 nodes-length L (s ∷ ss) e = ap suc (nodes-length L ss e)
 
-module _ (lab : Labelling) (k : ℕ) (few : (kind : Kind) (n : ℕ) (name : Bytes) → length (lab .strings kind n name) ≤ k) (name : Bytes) where
-  -- where a label hashes at most k strings, a path hashes at most k + 257
+module _ (lab : Labelling) (tied : Tied lab) (name : Bytes) where
+  -- how many strings are hashed for a label
+  abbrev k : ℕ
+  k = tied .each
+
+  -- with k strings for a label, a path hashes at most k + 257
   paths-most : (asked : List Asked) (ps : List Path) → All (pathField .Fits) ps → length (pathStrings lab name asked ps) ≤ length asked * (k + 257)
   unfolding pathStrings
   paths-most [] ps f = omega arith
@@ -41,7 +45,7 @@ module _ (lab : Labelling) (k : ℕ) (few : (kind : Kind) (n : ℕ) (name : Byte
       let N = pathNodes (labelAt lab name (a .place)) (x .steps) (x .end) in
       omega (
         arith,
-        few (kindOf (a .place)) (numberOf (a .place)) (lab .person name),
+        tied .as-many (kindOf (a .place)) (numberOf (a .place)) (lab .person name),
         paths-most asked ps (f .1),
         path-fits x (f .0) .most,
         nodes-length (labelAt lab name (a .place)) (x .steps) (x .end),
@@ -55,7 +59,7 @@ module _ (lab : Labelling) (k : ℕ) (few : (kind : Kind) (n : ℕ) (name : Byte
   few-asked zero = (omega arith, omega arith)
   few-asked (suc v) = (omega arith, omega arith)
 
-  pub lookup-strings-most : (p : Proof) → lookupField .Fits p → length (lookupStrings lab name p) ≤ 773 + 3 * k
+  lookup-strings-most : (p : Proof) → lookupField .Fits p → length (lookupStrings lab name p) ≤ 773 + 3 * k
   unfolding proofStrings
   lookup-strings-most p f =
       let g = proof-fits 1 lookupKeys (λ v t. lookupAsked v) p f in
@@ -70,26 +74,27 @@ module _ (lab : Labelling) (k : ℕ) (few : (kind : Kind) (n : ℕ) (name : Byte
         g .keyed,
       )
 
--- "a lookup has at most 776": whatever the bytes, no answer reports more
-abbrev counted : LookupAnswer → ℕ
-counted a = getD (lookupValues a) 2 0
+  -- whatever the bytes, no answer reports more
+  pub lookup-counts : (d b : Bytes) → Bytewise b → getD (lookupValues (checkLookup lab d name b)) 2 0 ≤ 773 + 3 * tied .each
+  unfolding checkLookup
+  lookup-counts d b w =
+      ⊎-elim (λ (_, e). rw e (read (parse lookupField b) refl)) (λ (n, _, e). rw e (omega arith))
+      (verdict-cases Refused (lookupRead lab name d (parse lookupField b)) (inputTests d name))
+    where
+      gives : (v t c : ℕ) → getD (lookupValues (lookupGives lab name v t c)) 2 0 ≡ c
+      gives zero t c = refl
+      gives (suc v) t c = refl
 
-pub lookup-most : (d name b : Bytes) → Bytewise b → counted (checkLookup plain d name b) ≤ 776
-unfolding checkLookup
-lookup-most d name b w =
-    ⊎-elim (λ (_, e). rw e (read (parse lookupField b) refl)) (λ (n, _, e). rw e (omega arith))
-    (verdict-cases Refused (lookupRead plain name d (parse lookupField b)) (inputTests d name))
-  where
-    gives : (v t c : ℕ) → counted (lookupGives plain name v t c) ≡ c
-    gives zero t c = refl
-    gives (suc v) t c = refl
+      read : (m : Read Proof) → parse lookupField b ≡ m → getD (lookupValues (lookupRead lab name d m)) 2 0 ≤ 773 + 3 * tied .each
+      read bad q = omega arith
+      read (got p r) q =
+          let (f, _) = bytes-parse lookup-lawful b p r w q in
+          let c = length (lookupStrings lab name p) in
+          ⊎-elim
+          (λ (_, e). rw (e, gives (p .number) (p .head .epoch) c) (lookup-strings-most p f))
+          (λ (n, _, e). rw e (omega arith))
+          (verdict-cases Refused (lookupGives lab name (p .number) (p .head .epoch) c) (proofTests lab name d (lookupTerms p) (lookupAsked (p .number)) p))
 
-    read : (m : Read Proof) → parse lookupField b ≡ m → counted (lookupRead plain name d m) ≤ 776
-    read bad q = omega arith
-    read (got p r) q =
-        let (f, _) = bytes-parse lookup-lawful b p r w q in
-        let c = length (lookupStrings plain name p) in
-        ⊎-elim
-        (λ (_, e). rw (e, gives (p .number) (p .head .epoch) c) (lookup-strings-most plain 1 (λ kind n name. omega arith) name p f))
-        (λ (n, _, e). rw e (omega arith))
-        (verdict-cases Refused (lookupGives plain name (p .number) (p .head .epoch) c) (proofTests plain name d (lookupTerms p) (lookupAsked (p .number)) p))
+-- "a lookup has at most 776"
+pub lookup-most : (d name b : Bytes) → Bytewise b → getD (lookupValues (checkLookup plain d name b)) 2 0 ≤ 776
+lookup-most d name b w = lookup-counts plain plain-tied name d b w

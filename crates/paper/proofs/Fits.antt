@@ -8,7 +8,7 @@ use lib.ListN.{length, getD}
 use Rattle.fips.specs.Sha256.{sha256}
 use Rattle.fips.proofs.Size.{sha256-length, sha256-byte}
 use Rattle.paper.specs.Lists.{All}
-use Rattle.paper.specs.Numbers.{wide, keyMost, versionMost}
+use Rattle.paper.specs.Numbers.{wide, versionMost}
 use Rattle.paper.specs.Bytes.{Bytes, Bytewise}
 use Rattle.paper.specs.Bits.{Bits, pack}
 use Rattle.paper.specs.Strings.{Head}
@@ -16,13 +16,9 @@ use Rattle.paper.specs.Path.{Step, Path}
 use Rattle.paper.specs.Layout.{block, within, seq, led, times, such, view}
 use Rattle.paper.specs.Fields.{digestField, epochField, labelField, prefixField, headField, stepField, rise, endField, pathField}
 use Rattle.paper.specs.Shows.{Item, itemField, Proof, proofField, Asked}
+pub use Rattle.paper.specs.Standing.{Wide, ItemFits}
 use Rattle.paper.proofs.Bytes.{bitsOf-length, pack-length}
 use Rattle.paper.proofs.Strings.{HeadSized}
-
--- 32 bytes
-pub record Wide (x : Bytes) : Type 0 where
-  pub size : length x ≡ wide
-  pub bytes : Bytewise x
 
 bytes-all : (s : Bytes) → ((i : ℕ) → getD s i 0 < 256) → Bytewise s
 bytes-all [] h = tt
@@ -75,12 +71,6 @@ pub record PathFits (x : Path) : Type 0 where
 pub path-fits : (x : Path) → pathField .Fits x → PathFits x
 unfolding led within view seq such times
 path-fits x f = record { least = f .0 .0; most = f .0 .1; each = f .1 .0 .0 .0 .1; rises = f .1 .0 .0 .1; last = f .1 .0 .1 }
-
-pub record ItemFits (i : Item) : Type 0 where
-  pub least : 1 ≤ length (i .key)
-  pub most : length (i .key) ≤ keyMost
-  pub bytes : Bytewise (i .key)
-  pub opening : Wide (i .opening)
 
 pub item-fits : (i : Item) → itemField .Fits i → ItemFits i
 unfolding view seq led within block

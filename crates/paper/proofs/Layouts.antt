@@ -11,13 +11,9 @@ use borrow.Author.Tests.{le-leb, leb-true}
 use Rattle.paper.specs.Lists.{All}
 use Rattle.paper.specs.Bytes.{Bytes, Bytewise, be, number, same}
 use Rattle.paper.specs.Layout.{Read, got, bad, Layout, andThen, block, fixed, within, seq, led, times, timesRead, timesBytes, such, view, never, whole, parse}
+pub use Rattle.paper.specs.Layout.{Lawful}
 use Rattle.paper.proofs.Lists.{and-left, and-right, all-right, all-take}
 use Rattle.paper.proofs.Bytes.{same-eq, same-refl, be-length, number-be, be-number, number-lt}
-
--- the bytes of a value that fits are read as that value, and what is read fits and has just those bytes
-pub record Lawful {A : Type 0} (a : Layout A) : Type 0 where
-  pub reads : (x : A) (r : Bytes) → a .Fits x → a .read (a .bytes x ++ r) ≡ got x r
-  pub tells : (s : Bytes) (x : A) (r : Bytes) → Bytewise s → a .read s ≡ got x r → a .Fits x × (a .bytes x ++ r ≡ s)
 
 -- what a chain of readings found, it found in each
 pub then-got : {A B : Type 0} (m : Read A) (f : A → Bytes → Read B) (y : B) (r : Bytes) → andThen m f ≡ got y r

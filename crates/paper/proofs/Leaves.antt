@@ -19,20 +19,15 @@ use Rattle.paper.specs.Labelling.{Labelling, Sized, sameName}
 use Rattle.paper.specs.Layout.{block, within, seq, led, such, view}
 use Rattle.paper.specs.Shows.{inAll, inOld, asMarker, labelAt}
 use Rattle.paper.specs.Table.{Record, recordField, byEpoch, ownRecords, leafOf, allLeaves, oldLeaves, allAt, oldAt}
+pub use Rattle.paper.specs.Standing.{RecordFits}
 use Rattle.paper.proofs.Lists.{all-in, in-all, all-append, all-getD, keep-in, keep-all, keep-passes, in-left, in-right}
 use Rattle.paper.proofs.Bytes.{same-eq, bitsOf-length}
 use Rattle.paper.proofs.Marker.{log2-unique}
-use Rattle.paper.proofs.Fits.{Wide, digest-wide, digest-fits, epoch-fits, ItemFits}
+use Rattle.paper.proofs.Fits.{Wide, digest-wide, digest-fits, epoch-fits}
 use Rattle.paper.proofs.Honest.{LeafSized}
 use Rattle.paper.proofs.Records.{Runs, runs-at}
 
 -- ---- what fits a record
-
-pub record RecordFits (r : Record) : Type 0 where
-  pub least : 1 ≤ r .version
-  pub most : r .version ≤ versionMost
-  pub epoch : r .epoch < 2 ^ 32
-  pub item : ItemFits (record { key = r .key; opening = r .opening })
 
 pub record-fits : (r : Record) → recordField .Fits r → RecordFits r
 unfolding view seq such led within block

@@ -13,6 +13,7 @@ pub mod Order
 pub mod Step
 pub mod Chain
 pub mod Collide
+pub mod Labelling
 pub mod Sizes
 pub mod Shown
 pub mod Agree
@@ -41,6 +42,7 @@ pub mod Changes
 pub mod HeadChain
 pub mod Standing
 pub mod Demand2
+pub mod Writers
 pub mod Private
 pub mod Arrow
 pub mod Rows

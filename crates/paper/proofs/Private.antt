@@ -1,35 +1,37 @@
 -- "A lookup's version, epoch, key and opening depend only on that name's own records and the epoch asked". Assumes nothing.
 use mathlib.Core.Path.{_≡_, refl, sym, ap, _∙_, subst}
-use mathlib.Core.Logic.{inl, inr, ⊎-elim}
-use mathlib.Core.Bool.{Bool, true, false, false≢true}
+use mathlib.Core.Logic.{inl, inr}
+use mathlib.Core.Bool.{true, false≢true}
 use mathlib.Core.List.{List, [], _∷_}
-use Prim.Native.Nat.{ℕ, zero, suc, _*_, _≤_}
+use Prim.Native.Nat.{ℕ, zero, suc, _*_, _^_, _≤_, _<_}
 use native.Mathlib.Omega.{arith}
-use lib.ListN.{take}
+use lib.ListN.{length, take}
+use borrow.Author.Tests.{leb-true}
 use Rattle.paper.specs.Lists.{All, _∈_}
-use Rattle.paper.specs.Numbers.{recordSize}
-use Rattle.paper.specs.Bytes.{Bytes, Bytewise, pasted}
+use Rattle.paper.specs.Numbers.{wide, recordSize}
+use Rattle.paper.specs.Bytes.{Bytes, Bytewise, same}
 use Rattle.paper.specs.Bits.{Bits}
 use Rattle.paper.specs.Labelling.{Labelling, Sized}
 use Rattle.paper.specs.Path.{End, this, other, off, none, epochOf}
 use Rattle.paper.specs.Path as P
-use Rattle.paper.specs.Layout.{got, times}
+use Rattle.paper.specs.Layout.{got, bad, fixed, seq, times, view, parse}
 use Rattle.paper.specs.Shows.{Asked, missing, inAll, meets}
 use Rattle.paper.specs.Fields.{isName}
-use Rattle.paper.specs.Lookup.{lookupAsked}
-use Rattle.paper.specs.Table.{Record, counted, byEpoch, ownRecords, lastVersion}
-use Rattle.paper.specs.Write.{lastItem, versionsBy, pathsOf, lookupProof, unwritten, writeRead, writeWith, writeLookup}
-use Rattle.paper.specs.Private.{Said, firstEpoch, saidBy, lastSays, Says}
+use Rattle.paper.specs.Lookup.{lookupAsked, lookupField}
+use Rattle.paper.specs.Table.{Record, counted, headLies, byEpoch, ownRecords, lastVersion}
+use Rattle.paper.specs.Write.{Written, lastItem, versionsBy, pathsOf, lookupProof, writeLookup}
+use Rattle.paper.specs.Private.{Said, firstEpoch, saidBy, lastSays, proofLeft, Says}
 use Rattle.paper.specs.declared.State.{State}
 use Rattle.paper.specs.declared.WriteAnswer.{WriteAnswer}
 use Rattle.paper.specs.declared.WriteAnswer.the-variants as W
 use Rattle.paper.proofs.Lists.{all-in, in-all, all-take}
-use Rattle.paper.proofs.Verdicts.{verdict-cases}
-use Rattle.paper.proofs.Layouts.{times-lawful, bytes-parse}
-use Rattle.paper.proofs.Proofs.{record-lawful}
+use Rattle.paper.proofs.Layouts.{times-lawful, parse-bytes, bytes-parse}
+use Rattle.paper.proofs.Proofs.{lookup-lawful, record-lawful}
 use Rattle.paper.proofs.Leaves.{RecordFits, record-fits, own-in, version-leaf}
 use Rattle.paper.proofs.Records.{own-by-epoch}
-use Rattle.paper.proofs.Complete.{Clear, clear, shows-leaf, meets-missing}
+use Rattle.paper.proofs.Complete.{Clear, clear, shows-leaf, meets-missing, lookup-in-layout}
+use Rattle.paper.proofs.Standing.{epochs-few, previous-wide}
+use Rattle.paper.proofs.Writers.{answered}
 
 -- ---- the last of a name's records
 
@@ -46,11 +48,11 @@ last-items (r ∷ []) = refl
 last-items (r ∷ q ∷ l) = last-items (q ∷ l)
 
 -- the record itself
-pub record Last (l : List Record) : Type 0 where
-  pub it : Record
-  pub mine : it ∈ l
-  pub version : it .version ≡ lastVersion l
-  pub epoch : it .epoch ≡ lastSays l .epoch
+record Last (l : List Record) : Type 0 where
+  it : Record
+  mine : it ∈ l
+  version : it .version ≡ lastVersion l
+  epoch : it .epoch ≡ lastSays l .epoch
 
 last : (r : Record) (l : List Record) → Last (r ∷ l)
 unfolding lastSays lastVersion
@@ -114,45 +116,50 @@ module _ (lab : Labelling) (sized : Sized lab) (name : Bytes) (t : ℕ) (rs : Li
 
 -- ---- what the writer left
 
-abbrev didWrite : WriteAnswer → Bool
-didWrite (W.Written n s) = true
-didWrite (W.Refused n s) = false
+-- a proof that was left says one thing
+pub says-one : (w : Written) (s s′ : Said) → Says w s → Says w s′ → s ≡ s′
+says-one w s s′ says says′ = cc
 
-module _ (lab : Labelling) (records heads : Bytes) (state : State) (out : Bytes) where
-  -- a writer that wrote: its trees did not clash, and its proof lies at the output's start
-  wrote : (input : Bool) (t : ℕ) (clear : List Record → Bool) (proof : List Record → Bytes) (rs : List Record) → counted records (state .count) ≡ got rs []
-      → didWrite (writeWith lab records heads state out input t clear proof .answer) ≡ true
-      → (clear rs ≡ true) × (writeWith lab records heads state out input t clear proof .out ≡ pasted out 0 (proof rs))
-  unfolding writeWith
-  wrote input t clear proof rs e h = ⊎-elim
-      (λ (_, q). ⊎-elim
-      (λ (k, v). (k .1 .1 .0, ap (λ w. w .out) (q ∙ read ∙ v)))
-      (λ (n, _, v). absurd (false≢true (sym (ap (λ w. didWrite (w .answer)) (q ∙ read ∙ v)) ∙ h)))
-      (verdict-cases (unwritten lab records heads state out) _ _))
-      (λ (n, _, q). absurd (false≢true (sym (ap (λ w. didWrite (w .answer)) q) ∙ h)))
-      (verdict-cases (unwritten lab records heads state out) (writeRead lab records heads state out t clear proof (counted records (state .count))) _)
-    where
-      read : writeRead lab records heads state out t clear proof (counted records (state .count)) ≡ writeRead lab records heads state out t clear proof (got rs [])
-      read = ap (writeRead lab records heads state out t clear proof) e
+none-left : parse lookupField [] ≡ bad
+unfolding view seq fixed same
+none-left = refl
+
+-- and a refusal says nothing
+says-written : (w : Written) (x : Said) → Says w x → (n : ℕ) × (s : State) × (w .answer ≡ W.Written n s)
+says-written w x says = by (w .answer) refl
+  where
+    by : (a : WriteAnswer) → w .answer ≡ a → (n : ℕ) × (s : State) × (w .answer ≡ W.Written n s)
+    by (W.Written n s) e = (n, s, e)
+    by (W.Refused n s) e =
+        let q : proofLeft (w .answer) (w .out) ≡ [] = ap (λ a. proofLeft a (w .out)) e in
+        let z : _≡_ {A = ℕ} 0 1 = cc none-left in absurd (omega arith)
 
 -- whatever else is in the tables, what the proof says is what the name's own records by the epoch say
-module _ (lab : Labelling) (sized : Sized lab) (records heads : Bytes) (w : Bytewise records) (state : State) (out name : Bytes) (t : ℕ) where
-  pub lookup-says : (rs : List Record) → counted records (state .count) ≡ got rs [] → didWrite (writeLookup lab records heads state out name t .answer) ≡ true
-      → Says out (writeLookup lab records heads state out name t) (lastSays (byEpoch t (ownRecords lab name rs)))
-  unfolding counted times
-  lookup-says rs e h =
-      let f = bytes-parse (times-lawful (state .count) record-lawful) (take (state .count * recordSize) records) rs [] (all-take _ (state .count * recordSize) records w) e .0 .1 in
+module _ (lab : Labelling) (sized : Sized lab) (records heads : Bytes) (records-bytes : Bytewise records) (heads-bytes : Bytewise heads) (state : State) (out name : Bytes) (t : ℕ) where
+  pub lookup-says : (rs : List Record) → counted records (state .count) ≡ got rs [] → (n : ℕ) (s : State) → writeLookup lab records heads state out name t .answer ≡ W.Written n s
+      → Says (writeLookup lab records heads state out name t) (lastSays (byEpoch t (ownRecords lab name rs)))
+  unfolding counted times headLies
+  lookup-says rs read n s e =
+      let f = bytes-parse (times-lawful (state .count) record-lawful) (take (state .count * recordSize) records) rs [] (all-take _ (state .count * recordSize) records records-bytes) read .0 .1 in
       let fits = in-all _ rs (λ r m. record-fits r (all-in _ rs f r m)) in
-      let (c, o) = wrote lab records heads state out (isName name) t _ _ rs e h in
-      record { proof = lookupProof lab name t rs heads; left = o; said = proof-says lab sized name t rs fits (clear lab sized name t rs fits _ c) heads }
+      let w = answered lab records heads state out (isName name) t _ _ rs read n s e in
+      let lies = leb-true (suc (state .epoch) * wide) (length heads) (w .lies) in
+      let short : t < 2 ^ 32 = omega (arith, w .reached, epochs-few heads (state .epoch) lies (w .heads-within)) in
+      let p = lookupProof lab name t rs heads in
+      let layout = lookup-in-layout lab sized name t rs fits (state .epoch) (w .shape) heads short (previous-wide heads (state .epoch) lies heads-bytes t (w .reached)) (w .unclashed) in
+      let left : proofLeft (writeLookup lab records heads state out name t .answer) (writeLookup lab records heads state out name t .out) ≡ lookupField .bytes p =
+      ap (λ a. proofLeft a (writeLookup lab records heads state out name t .out)) e ∙ w .bytes in
+      let found : parse lookupField (lookupField .bytes p) ≡ got p [] = parse-bytes lookup-lawful p layout in
+      record { proof = p; read = cc; said = proof-says lab sized name t rs fits (clear lab sized name t rs fits _ (w .unclashed)) heads }
 
--- "depend only on that name's own records and the epoch asked": two tables that agree on these, and two writers that wrote
-module _ (lab : Labelling) (sized : Sized lab) (records heads records′ heads′ : Bytes) (w : Bytewise records) (w′ : Bytewise records′) (state state′ : State) (out out′ name : Bytes) (t : ℕ) where
+-- "depend only on that name's own records and the epoch asked": where two tables agree on these, whatever the one lookup proof says the other says
+module _ (lab : Labelling) (sized : Sized lab) (records heads records′ heads′ : Bytes) (b : Bytewise records) (h : Bytewise heads) (b′ : Bytewise records′) (h′ : Bytewise heads′)
+    (state state′ : State) (out out′ name : Bytes) (t : ℕ) where
   pub lookup-private : (rs rs′ : List Record) → counted records (state .count) ≡ got rs [] → counted records′ (state′ .count) ≡ got rs′ [] → ownRecords lab name rs ≡ ownRecords lab name rs′
-      → didWrite (writeLookup lab records heads state out name t .answer) ≡ true → didWrite (writeLookup lab records′ heads′ state′ out′ name t .answer) ≡ true
-      → (s : Said) × Says out (writeLookup lab records heads state out name t) s × Says out′ (writeLookup lab records′ heads′ state′ out′ name t) s
-  lookup-private rs rs′ e e′ own h h′ = (
-    lastSays (byEpoch t (ownRecords lab name rs)),
-    lookup-says lab sized records heads w state out name t rs e h,
-    rw own (lookup-says lab sized records′ heads′ w′ state′ out′ name t rs′ e′ h′),
-  )
+      → (x y : Said) → Says (writeLookup lab records heads state out name t) x → Says (writeLookup lab records′ heads′ state′ out′ name t) y → x ≡ y
+  lookup-private rs rs′ read read′ own x y says says′ =
+      let (n, s, e) = says-written _ x says in
+      let (n′, s′, e′) = says-written _ y says′ in
+      says-one _ x _ says (lookup-says lab sized records heads b h state out name t rs read n s e)
+      ∙ ap (λ l. lastSays (byEpoch t l)) own
+      ∙ says-one _ _ y (lookup-says lab sized records′ heads′ b′ h′ state′ out′ name t rs′ read′ n′ s′ e′) says′

@@ -1,20 +1,15 @@
 -- Equal strings have equal parts: what makes a digest's preimage determine its fields. Assumes nothing.
 use mathlib.Core.Path.{_≡_, refl, sym, ap, _∙_}
 use mathlib.Core.List.{_++_, head-eq-of-cons-eq, tail-eq-of-cons-eq}
-use Prim.Native.Nat.{ℕ, _^_, _<_, _≤_}
+use Prim.Native.Nat.{ℕ, _^_, _<_}
 use native.Mathlib.Omega.{arith}
 use lib.ListN.{length, getD, length-append}
 use Rattle.paper.specs.Numbers.{wide}
 use Rattle.paper.specs.Bytes.{Bytes, be}
 use Rattle.paper.specs.Strings.{Node, leaf, inner, nothing, leafString, innerString, nothingString, nodeString, Head, headBytes, headString, labelString, commitmentString}
+pub use Rattle.paper.specs.Strings.{NodeSized, HeadSized}
 use Rattle.paper.proofs.Lists.{append-split}
 use Rattle.paper.proofs.Bytes.{be-length, be-inj, pack-length, pack-inj}
-
--- the fields have the sizes that the document gives them
-abbrev pub NodeSized : Node → Type 0
-NodeSized (leaf m c e) = (length m ≡ 256) × (length c ≡ wide) × (e < 2 ^ 32)
-NodeSized (inner p l r) = (length p ≤ 255) × (length l ≡ wide) × (length r ≡ wide)
-NodeSized nothing = Unit {0}
 
 pub leaf-inj : {l m c d : Bytes} {e f : ℕ} → length l ≡ length m → length c ≡ length d → e < 2 ^ 32 → f < 2 ^ 32
     → leafString l c e ≡ leafString m d f → (l ≡ m) × (c ≡ d) × (e ≡ f)
@@ -68,9 +63,6 @@ node-inj (inner p l r) (leaf m c e) h k q = absurd (omega (arith, same-tag (inne
 node-inj (inner p l r) nothing h k q = absurd (omega (arith, same-tag (inner p l r) nothing q))
 node-inj nothing (leaf m c e) h k q = absurd (omega (arith, same-tag nothing (leaf m c e) q))
 node-inj nothing (inner p l r) h k q = absurd (omega (arith, same-tag nothing (inner p l r) q))
-
-abbrev pub HeadSized : Head → Type 0
-HeadSized h = (h .epoch < 2 ^ 32) × (length (h .previous) ≡ wide) × (length (h .all) ≡ wide) × (length (h .old) ≡ wide)
 
 pub head-inj : (x y : Head) → HeadSized x → HeadSized y → headString x ≡ headString y → x ≡ y
 unfolding headString headBytes

@@ -1,7 +1,7 @@
 -- The sentences of "The tree over a set of labels" as laws of the definition: what the common prefix is, what stands on each side,
 -- nothing / a leaf / an inner node below the root, and that the tree depends on the set alone. Assumes nothing.
 use mathlib.Core.Path.{_≡_, refl, ap, ap₂, _∙_}
-use mathlib.Core.Logic.{inl, inr, ⊎-elim, _↔_}
+use mathlib.Core.Logic.{inl, inr, ⊎-elim}
 use mathlib.Core.Bool.{Bool, true, false, cond, not}
 use mathlib.Core.List.{List, [], _∷_}
 use Prim.Native.Nat.{ℕ, zero, suc, _+_, _<_, _≤_}
@@ -11,6 +11,7 @@ use Rattle.paper.specs.Lists.{_∈_, All, keep}
 use Rattle.paper.specs.Bits.{Bits, Pfx, starts, _▹_}
 use Rattle.paper.specs.Strings.{Node}
 use Rattle.paper.specs.Tree.{key, empty, one, fork, common, side, build, root}
+pub use Rattle.paper.specs.Tree.{Apart, Free, Below, SameSet}
 use Rattle.paper.proofs.Lists.{all-in, in-all, keep-passes, keep-all, in-keep, keep-in}
 use Rattle.paper.proofs.Bits.{pfx-refl, pfx-trans, pfx-next, pfx-full, pfx-length, length-snoc, starts-pfx, pfx-starts, lcp-left, lcp-right, lcp-most}
 
@@ -44,14 +45,6 @@ in-side q S x m h = in-keep (λ y. starts q (key y)) S x m (pfx-starts q (key x)
 pub side-in : (q : Bits) (S : List Node) (x : Node) → x ∈ side q S → x ∈ S
 unfolding side
 side-in q S x m = keep-in (λ y. starts q (key y)) S x m
-
--- no label is a prefix of another: so it is with labels of one length that differ, and with audit records
-abbrev pub Apart : Node → Node → Type 0
-Apart x y = (¬ Pfx (key x) (key y)) × (¬ Pfx (key y) (key x))
-
-abbrev pub Free : List Node → Type 0
-Free [] = Unit {0}
-Free (x ∷ S) = All (Apart x) S × Free S
 
 pub keep-free : (t : Node → Bool) (S : List Node) → Free S → Free (keep t S)
 unfolding keep
@@ -109,13 +102,6 @@ build-enough N (suc n) (suc m) q (x ∷ y ∷ r) f b h k l =
     build-enough N n m (p ▹ d) (side (p ▹ d) S) (side-free _ S f) (side-all _ _ S b) (side-below _ S) (omega (arith, length-snoc p d)) (omega (arith, length-snoc p d)) in
     ap₂ (fork p) (half false) (half true)
 
--- nodes of a tree below its root: labels of at most 256 bits, of which the first is shared, and none a prefix of another
-pub record Below (S : List Node) : Type 0 where
-  pub free : Free S
-  pub short : All (λ y. length (key y) ≤ 256) S
-  pub bit : Bool
-  pub shares : All (λ y. Pfx ([] ▹ bit) (key y)) S
-
 pub below-none : build 256 [] ≡ empty
 unfolding build
 below-none = refl
@@ -146,9 +132,6 @@ below-more x y S w = build-step 255 x y S ∙ ap₂ (fork p) (half false) (half 
 
 pfx-antisym : {p q : Bits} → Pfx p q → Pfx q p → p ≡ q
 pfx-antisym h k = pfx-full h (pfx-length k)
-
-abbrev pub SameSet : List Node → List Node → Type 0
-SameSet S R = (x : Node) → (x ∈ S) ↔ (x ∈ R)
 
 same-common : (x : Node) (S : List Node) (y : Node) (R : List Node) → SameSet (x ∷ S) (y ∷ R) → common x S ≡ common y R
 same-common x S y R e = pfx-antisym

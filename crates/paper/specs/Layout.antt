@@ -115,3 +115,8 @@ parse a s = whole (a .read s)
 abbrev pub inLayout : {A : Type 0} → Read A → Bool
 inLayout (got x r) = true
 inLayout bad = false
+
+-- reading and writing are inverse: the bytes of a value that fits are read as that value, and what is read fits and has just those bytes
+pub record Lawful {A : Type 0} (a : Layout A) : Type 0 where
+  pub reads : (x : A) (r : Bytes) → a .Fits x → a .read (a .bytes x ++ r) ≡ got x r
+  pub tells : (s : Bytes) (x : A) (r : Bytes) → Bytewise s → a .read s ≡ got x r → a .Fits x × (a .bytes x ++ r ≡ s)

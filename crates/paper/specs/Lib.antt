@@ -21,10 +21,12 @@ pub mod Publish
 pub mod Write
 pub mod Private
 pub mod Left
+pub mod Standing
 pub mod HeadChain
 pub mod Effect
 pub mod Level
 pub mod Answer
 pub mod Program
+pub mod Rows
 pub mod Arrow
 pub mod Refusals

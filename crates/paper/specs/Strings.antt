@@ -1,6 +1,7 @@
 -- Document 01, "Strings that are hashed".
+use mathlib.Core.Path.{_≡_}
 use mathlib.Core.List.{[], _∷_, _++_}
-use Prim.Native.Nat.{ℕ}
+use Prim.Native.Nat.{ℕ, _^_, _≤_, _<_}
 use lib.ListN.{length}
 use Rattle.paper.specs.Numbers.{wide}
 use Rattle.paper.specs.Bytes.{Bytes, be}
@@ -60,3 +61,12 @@ labelString kind n name = 0x04 ∷ (kind ∷ (be 2 n ++ name))
 -- "Commitment: 0x05, opening 32, key."
 unfoldable pub commitmentString : Bytes → Bytes → Bytes
 commitmentString opening key = 0x05 ∷ (opening ++ key)
+
+-- a node and a head whose fields have the sizes that the document gives them: such strings tell their fields (proofs/Strings.antt)
+abbrev pub NodeSized : Node → Type 0
+NodeSized (leaf m c e) = (length m ≡ 256) × (length c ≡ wide) × (e < 2 ^ 32)
+NodeSized (inner p l r) = (length p ≤ 255) × (length l ≡ wide) × (length r ≡ wide)
+NodeSized nothing = Unit {0}
+
+abbrev pub HeadSized : Head → Type 0
+HeadSized h = (h .epoch < 2 ^ 32) × (length (h .previous) ≡ wide) × (length (h .all) ≡ wide) × (length (h .old) ≡ wide)

@@ -1,11 +1,13 @@
 -- Document 01, "The tree over a set of labels": for leaves, and for audits, "where an opened node stands in place of its labels".
-use mathlib.Core.Bool.{true, false}
+use mathlib.Core.Logic.{_↔_}
+use mathlib.Core.Bool.{Bool, true, false}
 use mathlib.Core.List.{List, [], _∷_, _++_}
-use Prim.Native.Nat.{ℕ, zero, suc}
+use Prim.Native.Nat.{ℕ, zero, suc, _≤_}
+use lib.ListN.{length}
 use Rattle.fips.specs.Sha256.{sha256}
-use Rattle.paper.specs.Lists.{keep}
+use Rattle.paper.specs.Lists.{_∈_, All, keep}
 use Rattle.paper.specs.Bytes.{Bytes}
-use Rattle.paper.specs.Bits.{Bits, starts, _▹_, lcp}
+use Rattle.paper.specs.Bits.{Bits, Pfx, starts, _▹_, lcp}
 use Rattle.paper.specs.Strings.{Node, leaf, inner, nothing, nodeString}
 
 -- the label of a leaf, the prefix of an inner node
@@ -59,3 +61,24 @@ root S = fork [] (build 256 (side ([] ▹ false) S)) (build 256 (side ([] ▹ tr
 
 abbrev pub rootDigest : List Node → Bytes
 rootDigest S = digest (top (root S))
+
+-- ---- words of the laws in proofs/Tree.antt
+
+-- no label is a prefix of another: so it is with labels of one length that differ, and with audit records
+abbrev pub Apart : Node → Node → Type 0
+Apart x y = (¬ Pfx (key x) (key y)) × (¬ Pfx (key y) (key x))
+
+abbrev pub Free : List Node → Type 0
+Free [] = Unit {0}
+Free (x ∷ S) = All (Apart x) S × Free S
+
+-- nodes of a tree below its root: labels of at most 256 bits, of which the first is shared, and none a prefix of another
+pub record Below (S : List Node) : Type 0 where
+  pub free : Free S
+  pub short : All (λ y. length (key y) ≤ 256) S
+  pub bit : Bool
+  pub shares : All (λ y. Pfx ([] ▹ bit) (key y)) S
+
+-- "a set of labels": two lists of the same nodes, in any order
+abbrev pub SameSet : List Node → List Node → Type 0
+SameSet S R = (x : Node) → (x ∈ S) ↔ (x ∈ R)

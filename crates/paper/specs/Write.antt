@@ -1,9 +1,10 @@
 -- The three writers of lookup, history and audit proofs: what they answer and every byte that they leave.
-use mathlib.Core.Bool.{Bool, false, cond, not, _&&_, _||_}
+use mathlib.Core.Path.{_≡_}
+use mathlib.Core.Bool.{Bool, true, false, cond, not, _&&_, _||_}
 use mathlib.Core.List.{List, [], _∷_, _++_, map}
-use Prim.Native.Nat.{ℕ, _+_, _-_}
+use Prim.Native.Nat.{ℕ, _+_, _-_, _≤_}
 use lib.Dec.{eqb, leb}
-use lib.ListN.{length}
+use lib.ListN.{length, take}
 use Rattle.paper.specs.Lists.{every}
 use Rattle.paper.specs.Numbers.{INPUT, TABLE, EPOCH, CLASH, ROOM}
 use Rattle.paper.specs.Bytes.{Bytes, pasted}
@@ -123,6 +124,18 @@ module _ (lab : Labelling) where
     unfoldable pub writeWith : Bool → ℕ → (List Record → Bool) → (List Record → Bytes) → Written
     writeWith input t clear proof =
         verdict unwritten (writeRead t clear proof (counted records (state .count))) (test INPUT (recordsWithin records && (headsWithin heads && input)) ∷ [])
+
+    -- what an answer of n bytes says, where these are the counted records: every test passed, and the proof stands at the output's start
+    pub record Wrote (input : Bool) (t : ℕ) (clear : List Record → Bool) (proof : List Record → Bytes) (rs : List Record) (n : ℕ) : Type 0 where
+      pub records-within : recordsWithin records ≡ true
+      pub heads-within : headsWithin heads ≡ true
+      pub input-good : input ≡ true
+      pub lies : headLies heads (state .epoch) ≡ true
+      pub shape : inShape lab (state .epoch) [] rs ≡ true
+      pub reached : t ≤ state .epoch
+      pub unclashed : clear rs ≡ true
+      pub room : n ≤ length out
+      pub bytes : take n (writeWith input t clear proof .out) ≡ proof rs
 
     abbrev pub writeLookup : Bytes → ℕ → Written
     writeLookup name t =

@@ -23,7 +23,7 @@ use Rattle.paper.specs.Audit.{opened, fresh, Audit, auditField, recordOf, olds,
 use Rattle.paper.specs.Answer.{lookupNumber, historyNumber, auditNumber}
 use Rattle.paper.specs.Arrow.{AuditStep, Agrees, Collision, hashed}
 use Rattle.paper.proofs.Bytes.{bytewise, eq-same}
-use Rattle.paper.proofs.Arrow.{plain-sized}
+use Rattle.paper.proofs.Labelling.{plain-tied}
 use Rattle.paper.proofs.Verdicts.{Hold}
 use Rattle.paper.proofs.Accepted.{lookup-accept, audit-accept, history-accept}
 use Rattle.arrow.specs.Pointed.{allAccepted}
@@ -211,4 +211,4 @@ points = rw (lookup-accepted, step-accepted, history-accepted)
 
 pub promise : Agrees (checkLookup plain before name lookup) lookup (step ∷ []) (checkHistory plain after name history) history
     ⊎ Collision (hashed plain name lookup (step ∷ []) history)
-promise = accepted-agrees plain plain-sized before name lookup (step ∷ []) history (bytewise lookup tt) (bytewise (step .proof) tt, tt) (bytewise history tt) points
+promise = accepted-agrees plain plain-tied before name lookup (step ∷ []) history (bytewise lookup tt) (bytewise (step .proof) tt, tt) (bytewise history tt) points

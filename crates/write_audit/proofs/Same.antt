@@ -14,11 +14,12 @@ use Rattle.paper.specs.Audit.{olds, auditField}
 use Rattle.paper.specs.Level.{leavesIn}
 use Rattle.paper.specs.Table.{Record, byEpoch, allLeaves, oldLeaves, previousHead, allAt, oldAt, distinct}
 use Rattle.paper.specs.Write.{Written, belowRoot, auditProof}
+use Rattle.paper.specs.Standing.{RecordFits}
 use Rattle.paper.specs.declared.State.{State}
 use Rattle.paper.specs.declared.WriteAnswer.the-variants as W
 use Rattle.paper.proofs.Lists.{all-in, in-all, and-both}
-use Rattle.paper.proofs.Arrow.{plain-sized}
-use Rattle.paper.proofs.Leaves.{RecordFits, record-fits, all-at-sized, old-at-sized}
+use Rattle.paper.proofs.Labelling.{plain-sized}
+use Rattle.paper.proofs.Leaves.{record-fits, all-at-sized, old-at-sized}
 use Rattle.paper.proofs.Before.{Dated, clear-before, root-before, all-dated, old-dated}
 use Rattle.paper.proofs.Honest.{LeafSized}
 use Rattle.record.specs.Places.{recordsIn}

@@ -10,7 +10,7 @@ use Rattle.paper.specs.Lookup.{checkLookup}
 use Rattle.paper.specs.Audit.{checkAudit}
 use Rattle.paper.specs.Answer.{lookupNumber, historyNumber, auditNumber}
 use Rattle.paper.specs.Arrow.{AuditStep}
-use Rattle.paper.proofs.Arrow.{plain-sized}
+use Rattle.paper.proofs.Labelling.{plain-tied}
 use Rattle.ranges.proofs.Slices.{bytewise}
 use Rattle.arrow.specs.Pointed.{Pointed, allAccepted}
 use Rattle.arrow.proofs.Pointing.{pointed, unlooked, unaudited, reached}
@@ -34,14 +34,14 @@ answers : (c : tie.After-lookup-number) (r : Bool) → let a = c .before .before
     → Pointed plain (a .before .now) (a .name .now) (a .lookup .now) (steps c) (a .history .now) r
 answers c r e =
     let a = c .before .before .before .before .before .before .before .before .args in
-    pointed plain plain-sized (a .before .now) (a .name .now) (a .lookup .now) (steps c) (a .history .now) r
+    pointed plain plain-tied (a .before .now) (a .name .now) (a .lookup .now) (steps c) (a .history .now) r
     (bytewise (a .lookup .now) (c .before .before .before .before .shared-slice-known4 .given)) (bytewise (a .step .now) (c .before .before .before .shared-slice-known5 .given), tt) (bytewise (a .history .now) (c .before .before .shared-slice-known6 .given)) e
 
 returns : tie.Need-returns
 returns c =
     let k = c .before in
     let a = k .before .before .before .before .before .before .before .before .args in
-    answers k _ (unlooked plain plain-sized (a .before .now) (a .name .now) (a .lookup .now) (steps k) (a .history .now) (k .lookup-number .result) (looked k) (c .if1 .taken))
+    answers k _ (unlooked plain plain-tied (a .before .now) (a .name .now) (a .lookup .now) (steps k) (a .history .now) (k .lookup-number .result) (looked k) (c .if1 .taken))
 
 returns-2 : tie.Need-returns-2
 returns-2 c =
@@ -49,7 +49,7 @@ returns-2 c =
     let k = s .before .before .before in
     let a = k .before .before .before .before .before .before .before .before .args in
     let no : eqb (auditNumber (checkAudit (a .before .now) (a .after .now) (a .step .now))) 0 ≡ false = ne-eqb _ 0 (λ z. c .if2 .taken (stepped s ∙ z)) in
-    answers k _ (unaudited plain plain-sized (a .before .now) (a .name .now) (a .lookup .now) (steps k) (a .history .now) (k .lookup-number .result) (looked k) (s .before .before .if1 .left) (rw no))
+    answers k _ (unaudited plain plain-tied (a .before .now) (a .name .now) (a .lookup .now) (steps k) (a .history .now) (k .lookup-number .result) (looked k) (s .before .before .if1 .left) (rw no))
 
 returns-3 : tie.Need-returns-3
 returns-3 c =
@@ -57,7 +57,7 @@ returns-3 c =
     let k = s .before .before .before in
     let a = k .before .before .before .before .before .before .before .before .args in
     let yes : eqb (auditNumber (checkAudit (a .before .now) (a .after .now) (a .step .now))) 0 ≡ true = eq-eqb _ 0 (sym (stepped s) ∙ c .before .before .if2 .left) in
-    answers k _ (reached plain plain-sized (a .before .now) (a .name .now) (a .lookup .now) (steps k) (a .history .now) (k .lookup-number .result) (c .history-number .result) (looked k) (s .before .before .if1 .left) (rw yes)
+    answers k _ (reached plain plain-tied (a .before .now) (a .name .now) (a .lookup .now) (steps k) (a .history .now) (k .lookup-number .result) (c .history-number .result) (looked k) (s .before .before .if1 .left) (rw yes)
     (c .history-number .ensures ∙ ap historyNumber (c .before .check-history .ensures)))
 
 pub arrow-after-spec : {M : Type 1} → statement M

@@ -5,7 +5,7 @@ use mathlib.Core.List.{[]}
 use Rattle.paper.specs.Labelling.{plain}
 use Rattle.paper.specs.Lookup.{checkLookup}
 use Rattle.paper.specs.Answer.{lookupNumber, historyNumber}
-use Rattle.paper.proofs.Arrow.{plain-sized}
+use Rattle.paper.proofs.Labelling.{plain-tied}
 use Rattle.ranges.proofs.Slices.{bytewise}
 use Rattle.arrow.proofs.Pointing.{pointed, unlooked, reached}
 use Rattle.arrow.proofs.arrow_now.Statement.{statement}
@@ -19,17 +19,17 @@ returns : tie.Need-returns
 returns c =
     let k = c .before in
     let a = k .before .before .before .before .before .before .args in
-    pointed plain plain-sized (a .head .now) (a .name .now) (a .lookup .now) [] (a .history .now) _
+    pointed plain plain-tied (a .head .now) (a .name .now) (a .lookup .now) [] (a .history .now) _
     (bytewise (a .lookup .now) (k .before .before .before .shared-slice-known3 .given)) tt (bytewise (a .history .now) (k .before .before .shared-slice-known4 .given))
-    (unlooked plain plain-sized (a .head .now) (a .name .now) (a .lookup .now) [] (a .history .now) (k .lookup-number .result) (looked k) (c .if1 .taken))
+    (unlooked plain plain-tied (a .head .now) (a .name .now) (a .lookup .now) [] (a .history .now) (k .lookup-number .result) (looked k) (c .if1 .taken))
 
 returns-2 : tie.Need-returns-2
 returns-2 c =
     let k = c .before .before .before in
     let a = k .before .before .before .before .before .before .args in
-    pointed plain plain-sized (a .head .now) (a .name .now) (a .lookup .now) [] (a .history .now) _
+    pointed plain plain-tied (a .head .now) (a .name .now) (a .lookup .now) [] (a .history .now) _
     (bytewise (a .lookup .now) (k .before .before .before .shared-slice-known3 .given)) tt (bytewise (a .history .now) (k .before .before .shared-slice-known4 .given))
-    (reached plain plain-sized (a .head .now) (a .name .now) (a .lookup .now) [] (a .history .now) (k .lookup-number .result) (c .history-number .result) (looked k) (c .before .before .if1 .left) refl
+    (reached plain plain-tied (a .head .now) (a .name .now) (a .lookup .now) [] (a .history .now) (k .lookup-number .result) (c .history-number .result) (looked k) (c .before .before .if1 .left) refl
     (c .history-number .ensures ∙ ap historyNumber (c .before .check-history .ensures)))
 
 pub arrow-now-spec : {M : Type 1} → statement M

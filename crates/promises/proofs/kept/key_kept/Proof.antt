@@ -7,7 +7,7 @@ use lib.ListN.{length}
 use lib.Seq.{length-take-le}
 use Rattle.paper.specs.Labelling.{plain}
 use Rattle.paper.specs.Write.{Written}
-use Rattle.paper.proofs.Arrow.{plain-sized}
+use Rattle.paper.proofs.Labelling.{plain-sized}
 use Rattle.promises.proofs.Chains.{key-refused, lookup-places, key-checked}
 use Rattle.promises.proofs.kept.key_kept.Statement.{statement}
 use Rattle.promises.proofs.kept.key_kept.Tie as tie
