@@ -5,7 +5,7 @@ use mathlib.Core.List.{List, [], _∷_, _++_, map}
 use Prim.Native.Nat.{ℕ, zero, suc, _+_, _*_, _≤_}
 use native.Mathlib.Omega.{arith}
 use native.Mathlib.Nat.{suc-mul, mul-le-mul-right}
-use lib.ListN.{length, getD, length-append, length-map}
+use lib.ListN.{length, length-append, length-map}
 use Rattle.paper.specs.Lists.{All}
 use Rattle.paper.specs.Bytes.{Bytes, Bytewise}
 use Rattle.paper.specs.Bits.{Bits}
@@ -16,10 +16,10 @@ use Rattle.paper.specs.Layout.{Read, got, bad, parse}
 use Rattle.paper.specs.Fields.{pathField}
 use Rattle.paper.specs.Shows.{Asked, Proof, kindOf, numberOf, labelAt, pathStrings, proofStrings, proofTests, inputTests}
 use Rattle.paper.specs.Lookup.{lookupAsked, lookupKeys, lookupField, lookupStrings, lookupRead, lookupGives, lookupTerms, checkLookup}
-use Rattle.paper.specs.declared.LookupAnswer.{LookupAnswer}
 use Rattle.paper.specs.declared.LookupAnswer.the-variants.{Refused}
-use Rattle.paper.specs.Answer.{lookupValues}
+use Rattle.paper.specs.Answer.{valueAt, answeredDigests}
 use Rattle.paper.proofs.Verdicts.{verdict-cases}
+use Rattle.paper.proofs.Accepted.{gives-reply}
 use Rattle.paper.proofs.Layouts.{bytes-parse}
 use Rattle.paper.proofs.Proofs.{lookup-lawful}
 use Rattle.paper.proofs.Fits.{path-fits, proof-fits}
@@ -71,25 +71,18 @@ module _ (lab : Labelling) (k : ℕ) (few : (kind : Kind) (n : ℕ) (name : Byte
       )
 
 -- "a lookup has at most 776": whatever the bytes, no answer reports more
-abbrev counted : LookupAnswer → ℕ
-counted a = getD (lookupValues a) 2 0
-
-pub lookup-most : (d name b : Bytes) → Bytewise b → counted (checkLookup plain d name b) ≤ 776
+pub lookup-most : (d name b : Bytes) → Bytewise b → answeredDigests (checkLookup plain d name b) ≤ 776
 unfolding checkLookup
 lookup-most d name b w =
     ⊎-elim (λ (_, e). rw e (read (parse lookupField b) refl)) (λ (n, _, e). rw e (omega arith))
     (verdict-cases Refused (lookupRead plain name d (parse lookupField b)) (inputTests d name))
   where
-    gives : (v t c : ℕ) → counted (lookupGives plain name v t c) ≡ c
-    gives zero t c = refl
-    gives (suc v) t c = refl
-
-    read : (m : Read Proof) → parse lookupField b ≡ m → counted (lookupRead plain name d m) ≤ 776
+    read : (m : Read Proof) → parse lookupField b ≡ m → answeredDigests (lookupRead plain name d m) ≤ 776
     read bad q = omega arith
     read (got p r) q =
         let (f, _) = bytes-parse lookup-lawful b p r w q in
         let c = length (lookupStrings plain name p) in
         ⊎-elim
-        (λ (_, e). rw (e, gives (p .number) (p .head .epoch) c) (lookup-strings-most plain 1 (λ kind n name. omega arith) name p f))
+        (λ (_, e). rw (e, ap (valueAt 2) (gives-reply plain name (p .number) (p .head .epoch) c)) (lookup-strings-most plain 1 (λ kind n name. omega arith) name p f))
         (λ (n, _, e). rw e (omega arith))
         (verdict-cases Refused (lookupGives plain name (p .number) (p .head .epoch) c) (proofTests plain name d (lookupTerms p) (lookupAsked (p .number)) p))
