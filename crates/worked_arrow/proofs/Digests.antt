@@ -1,5 +1,5 @@
--- Every digest of the directory in Promise.antt, each worked out once. The bytes are those of tests/directory.py. Assumes nothing.
-use mathlib.Core.Path.{_≡_}
+-- Every digest of the directory in Promise.antt and Publishing.antt, each worked out once. The bytes are those of tests/directory.py. Assumes nothing.
+use mathlib.Core.Path.{_≡_, ap₂, _∙_}
 use mathlib.Core.Bool.{true, false}
 use mathlib.Core.List.{[], _∷_}
 use Rattle.fips.specs.Sha256 as F
@@ -7,6 +7,7 @@ use Rattle.fips.proofs.Fast.{fast-is}
 use Rattle.paper.specs.Bytes.{Bytes, be, zeros}
 use Rattle.paper.specs.Bits.{Bits, toBits, bitsOf, fromBits, pack}
 use Rattle.paper.specs.Strings.{leaf, inner, nothing, nodeString, leafString, innerString, nothingString, Head, headBytes, headString, labelString, commitmentString}
+use Rattle.paper.specs.Tree.{digest}
 
 abbrev pub name : Bytes
 name = 105 ∷ 100 ∷ 97 ∷ []
@@ -183,3 +184,7 @@ after = 53 ∷ 239 ∷ 66 ∷ 28 ∷ 124 ∷ 105 ∷ 138 ∷ 43 ∷ 28 ∷ 12 �
 pub after-is : F.sha256 (headString head-2) ≡ after
 unfolding F.be64 F.zeros F.pad F.parse F.digest be toBits bitsOf fromBits pack leafString innerString nothingString headBytes headString labelString commitmentString
 after-is = fast-is (headString head-2)
+
+-- the digest of an inner node, from those below it
+pub over : (p : Bits) {l r x y d : Bytes} → l ≡ x → r ≡ y → digest (inner p x y) ≡ d → digest (inner p l r) ≡ d
+over p e f q = ap₂ (λ l r. digest (inner p l r)) e f ∙ q

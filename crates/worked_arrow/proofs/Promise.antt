@@ -1,7 +1,7 @@
 -- Demand 3 is not empty: a directory of one name whose key was replaced. A lookup at epoch 1, the audit step from epoch 1 to 2, and a
 -- history at epoch 2 are accepted, each by computation down to SHA-256; so the theorem applies to them, and the lookup gave the key that
 -- the history says was current then. The bytes are those of tests/directory.py. Assumes nothing.
-use mathlib.Core.Path.{_≡_, refl, ap, ap₂, _∙_}
+use mathlib.Core.Path.{_≡_, refl, ap, _∙_}
 use mathlib.Core.Logic.{_⊎_}
 use mathlib.Core.Bool.{true, _&&_}
 use mathlib.Core.List.{[], _∷_}
@@ -9,18 +9,18 @@ use Prim.Native.Nat.{ℕ, suc}
 use lib.Dec.{eqb}
 use Rattle.paper.specs.Lists.{every, keep, upFrom}
 use Rattle.paper.specs.Bytes.{Bytes, be, zeros, number, same}
-use Rattle.paper.specs.Bits.{Bits, toBits, bitsOf, fromBits, pack, starts, lcp, topPower, log2}
-use Rattle.paper.specs.Strings.{inner, Head}
+use Rattle.paper.specs.Bits.{toBits, bitsOf, fromBits, pack, starts, lcp, topPower, log2}
+use Rattle.paper.specs.Strings.{Head}
 use Rattle.paper.specs.Labelling.{plain}
 use Rattle.paper.specs.Tree.{digest, common, side, build, root, rootDigest}
-use Rattle.paper.specs.Path.{End, this, off, none, Path, stepNode, pathTop, pathRoot, lastLength, presentWith, epochOf, absent}
+use Rattle.paper.specs.Path.{End, this, off, none, Path, stepNode, pathTop, pathNodes, pathRoot, lastLength, presentWith, epochOf, absent}
 use Rattle.paper.specs.Layout.{got, block, fixed, within, seq, led, times, timesRead, such, view, never, parse}
 use Rattle.paper.specs.Fields.{isName, riseFrom, rise, endOf}
-use Rattle.paper.specs.Shows.{Place, inAll, inOld, asMarker, kindOf, numberOf, Asked, present, missing, Terms, Item, Proof, rootAt, labelAt, epochAt, commitmentAt, meets, pathTests, proofTests, inputTests}
+use Rattle.paper.specs.Shows.{Place, inAll, inOld, asMarker, kindOf, numberOf, Asked, present, missing, Terms, Item, Proof, rootAt, labelAt, epochAt, commitmentAt, meets, pathTests, pathStrings, proofStrings, proofTests, inputTests}
 use Rattle.paper.specs.Lookup.{lookupAsked, lookupField, lookupTerms, checkLookup}
 use Rattle.paper.specs.History.{historyAsked, historyField, historyTerms, checkHistory}
-use Rattle.paper.specs.Audit.{opened, fresh, Audit, auditField, recordOf, olds, news, before?, inOrder, recordRule, ofAll, ofOld, auditTests, checkAudit}
-use Rattle.paper.specs.Answer.{lookupNumber, historyNumber, auditNumber}
+use Rattle.paper.specs.Audit.{opened, fresh, Audit, auditField, recordOf, olds, news, before?, inOrder, recordRule, ofAll, ofOld, auditTests, auditStrings, checkAudit}
+use Rattle.paper.specs.Answer.{reply, lookupReply, historyReply, auditReply}
 use Rattle.paper.specs.Arrow.{AuditStep, Agrees, Collision, hashed}
 use Rattle.paper.proofs.Bytes.{bytewise, eq-same}
 use Rattle.paper.proofs.Arrow.{plain-sized}
@@ -29,7 +29,7 @@ use Rattle.paper.proofs.Accepted.{lookup-accept, audit-accept, history-accept}
 use Rattle.arrow.specs.Pointed.{allAccepted}
 use Rattle.arrow.proofs.Pointing.{accepted-agrees}
 use Rattle.worked_arrow.proofs.Digests as D
-use Rattle.worked_arrow.proofs.Digests.{name, key-1, opening-1, key-2, opening-2, label-1, label-2, mark-1, commitment-1, commitment-2, leaf-1, marker-0, prefix, pair-1, leaf-2, marker-1, pair-2, empty, all-1, all-2, gone-1, old-1, old-2, head-1, before, head-2, after}
+use Rattle.worked_arrow.proofs.Digests.{name, key-1, opening-1, key-2, opening-2, label-1, label-2, mark-1, commitment-1, commitment-2, leaf-1, marker-0, prefix, pair-1, leaf-2, marker-1, pair-2, empty, all-1, all-2, gone-1, old-1, old-2, head-1, before, head-2, after, over}
 
 abbrev lookup : Bytes
 lookup = 86 ∷ 75 ∷ 68 ∷ 0 ∷ 1 ∷ 1 ∷ 0 ∷ 0 ∷ 0 ∷ 1 ∷ 90 ∷ 130 ∷ 232 ∷ 110 ∷ 236 ∷ 79 ∷ 141 ∷ 195 ∷ 212 ∷ 48 ∷ 213 ∷ 125 ∷ 72 ∷ 225 ∷ 238 ∷ 59 ∷ 20 ∷ 25 ∷ 96 ∷ 46 ∷ 48 ∷ 112 ∷ 7 ∷ 62 ∷ 2 ∷ 61 ∷ 51 ∷ 155 ∷ 104 ∷ 24 ∷ 108 ∷ 132 ∷ 162 ∷ 208 ∷ 154 ∷ 101 ∷ 156 ∷ 42 ∷ 60 ∷ 226 ∷ 182 ∷ 53 ∷ 78 ∷ 83 ∷ 244 ∷ 106 ∷ 51 ∷ 22 ∷ 57 ∷ 164 ∷ 57 ∷ 174 ∷ 110 ∷ 168 ∷ 115 ∷ 220 ∷ 175 ∷ 236 ∷ 156 ∷ 154 ∷ 227 ∷ 38 ∷ 102 ∷ 10 ∷ 132 ∷ 171 ∷ 229 ∷ 2 ∷ 218 ∷ 220 ∷ 92 ∷ 132 ∷ 178 ∷ 182 ∷ 22 ∷ 237 ∷ 10 ∷ 164 ∷ 93 ∷ 136 ∷ 129 ∷ 33 ∷ 49 ∷ 120 ∷ 85 ∷ 224 ∷ 116 ∷ 1 ∷ 159 ∷ 100 ∷ 167 ∷ 231 ∷ 26 ∷ 201 ∷ 93 ∷ 0 ∷ 0 ∷ 1 ∷ 5 ∷ 102 ∷ 105 ∷ 114 ∷ 115 ∷ 116 ∷ 7 ∷ 7 ∷ 7 ∷ 7 ∷ 7 ∷ 7 ∷ 7 ∷ 7 ∷ 7 ∷ 7 ∷ 7 ∷ 7 ∷ 7 ∷ 7 ∷ 7 ∷ 7 ∷ 7 ∷ 7 ∷ 7 ∷ 7 ∷ 7 ∷ 7 ∷ 7 ∷ 7 ∷ 7 ∷ 7 ∷ 7 ∷ 7 ∷ 7 ∷ 7 ∷ 7 ∷ 7 ∷ 0 ∷ 2 ∷ 0 ∷ 0 ∷ 219 ∷ 193 ∷ 180 ∷ 201 ∷ 0 ∷ 255 ∷ 228 ∷ 141 ∷ 87 ∷ 91 ∷ 93 ∷ 165 ∷ 198 ∷ 56 ∷ 4 ∷ 1 ∷ 37 ∷ 246 ∷ 93 ∷ 176 ∷ 254 ∷ 62 ∷ 36 ∷ 73 ∷ 75 ∷ 118 ∷ 234 ∷ 152 ∷ 100 ∷ 87 ∷ 217 ∷ 134 ∷ 0 ∷ 5 ∷ 121 ∷ 203 ∷ 41 ∷ 177 ∷ 94 ∷ 7 ∷ 127 ∷ 17 ∷ 242 ∷ 159 ∷ 214 ∷ 83 ∷ 144 ∷ 61 ∷ 43 ∷ 192 ∷ 121 ∷ 47 ∷ 133 ∷ 218 ∷ 48 ∷ 57 ∷ 184 ∷ 251 ∷ 69 ∷ 29 ∷ 198 ∷ 105 ∷ 253 ∷ 142 ∷ 37 ∷ 78 ∷ 0 ∷ 142 ∷ 31 ∷ 86 ∷ 183 ∷ 100 ∷ 33 ∷ 247 ∷ 215 ∷ 96 ∷ 56 ∷ 142 ∷ 65 ∷ 163 ∷ 241 ∷ 118 ∷ 74 ∷ 199 ∷ 42 ∷ 177 ∷ 222 ∷ 75 ∷ 123 ∷ 209 ∷ 159 ∷ 244 ∷ 232 ∷ 76 ∷ 8 ∷ 217 ∷ 36 ∷ 84 ∷ 46 ∷ 0 ∷ 0 ∷ 0 ∷ 1 ∷ 0 ∷ 1 ∷ 0 ∷ 0 ∷ 219 ∷ 193 ∷ 180 ∷ 201 ∷ 0 ∷ 255 ∷ 228 ∷ 141 ∷ 87 ∷ 91 ∷ 93 ∷ 165 ∷ 198 ∷ 56 ∷ 4 ∷ 1 ∷ 37 ∷ 246 ∷ 93 ∷ 176 ∷ 254 ∷ 62 ∷ 36 ∷ 73 ∷ 75 ∷ 118 ∷ 234 ∷ 152 ∷ 100 ∷ 87 ∷ 217 ∷ 134 ∷ 3 ∷ 0 ∷ 2 ∷ 0 ∷ 0 ∷ 219 ∷ 193 ∷ 180 ∷ 201 ∷ 0 ∷ 255 ∷ 228 ∷ 141 ∷ 87 ∷ 91 ∷ 93 ∷ 165 ∷ 198 ∷ 56 ∷ 4 ∷ 1 ∷ 37 ∷ 246 ∷ 93 ∷ 176 ∷ 254 ∷ 62 ∷ 36 ∷ 73 ∷ 75 ∷ 118 ∷ 234 ∷ 152 ∷ 100 ∷ 87 ∷ 217 ∷ 134 ∷ 0 ∷ 5 ∷ 141 ∷ 92 ∷ 38 ∷ 222 ∷ 224 ∷ 203 ∷ 165 ∷ 47 ∷ 221 ∷ 174 ∷ 66 ∷ 59 ∷ 98 ∷ 135 ∷ 212 ∷ 13 ∷ 130 ∷ 116 ∷ 219 ∷ 37 ∷ 56 ∷ 84 ∷ 197 ∷ 66 ∷ 250 ∷ 67 ∷ 45 ∷ 95 ∷ 64 ∷ 150 ∷ 169 ∷ 216 ∷ 0 ∷ 0 ∷ 0 ∷ 0 ∷ 0 ∷ 0 ∷ 0 ∷ 0 ∷ 0 ∷ 0 ∷ 0 ∷ 0 ∷ 0 ∷ 0 ∷ 0 ∷ 0 ∷ 0 ∷ 0 ∷ 0 ∷ 0 ∷ 0 ∷ 0 ∷ 0 ∷ 0 ∷ 0 ∷ 0 ∷ 0 ∷ 0 ∷ 0 ∷ 0 ∷ 0 ∷ 0 ∷ 0 ∷ 0 ∷ 0 ∷ 0 ∷ 1 ∷ []
@@ -102,10 +102,6 @@ step-rules : (eqb (audit .after .epoch) (suc (audit .before .epoch)) && same (au
 unfolding every same toBits bitsOf starts lcp before? inOrder
 step-rules = (refl, refl, refl)
 
--- the digest of an inner node, from those below it
-over : (p : Bits) {l r x y d : Bytes} → l ≡ x → r ≡ y → digest (inner p x y) ≡ d → digest (inner p l r) ≡ d
-over p e f q = ap₂ (λ l r. digest (inner p l r)) e f ∙ q
-
 all-before : rootDigest (olds (audit .all)) ≡ all-1
 unfolding keep starts lcp toBits bitsOf common side build root olds
 all-before = over [] D.pair-1-is D.empty-is D.all-1-is
@@ -122,9 +118,9 @@ old-after : rootDigest (news (audit .old)) ≡ old-2
 unfolding keep starts lcp toBits bitsOf common side build root news
 old-after = over [] D.gone-1-is D.empty-is D.old-2-is
 
-pub step-accepted : auditNumber (checkAudit before after (step .proof)) ≡ 0
-unfolding auditTests
-step-accepted = ap auditNumber (audit-accept before after (step .proof) audit step-read (refl, tt) (
+pub step-accepted : auditReply (checkAudit before after (step .proof)) ≡ reply 0 (1 ∷ 2 ∷ 16 ∷ [])
+unfolding keep starts lcp toBits bitsOf common side build root olds news auditTests auditStrings
+step-accepted = ap auditReply (audit-accept before after (step .proof) audit step-read (refl, tt) (
   eq-same D.before-is,
   (eq-same D.after-is, (step-rules .0, (step-rules .1, (eq-same all-before, (eq-same all-after, (step-rules .2, (eq-same old-before, (eq-same old-after, tt)))))))),
 ))
@@ -164,9 +160,10 @@ lookup-holds : Hold (proofTests plain name before (lookupTerms looked) (lookupAs
 unfolding topPower log2 proofTests pathTests
 lookup-holds = (eq-same D.before-is, (looked-1 .0, (looked-1 .1, (looked-2 .0, (looked-2 .1, (looked-3 .0, (looked-3 .1, tt)))))))
 
-pub lookup-accepted : lookupNumber (checkLookup plain before name lookup) ≡ 0
-unfolding every isName inputTests
-lookup-accepted = ap lookupNumber (lookup-accept plain before name lookup looked lookup-read (refl, tt) lookup-holds)
+-- version 1, found at epoch 1
+pub lookup-accepted : lookupReply (checkLookup plain before name lookup) ≡ reply 0 (1 ∷ 1 ∷ 13 ∷ [])
+unfolding every isName inputTests topPower log2 proofStrings pathStrings pathNodes
+lookup-accepted = ap lookupReply (lookup-accept plain before name lookup looked lookup-read (refl, tt) lookup-holds)
 
 told-1 : Passes head-2 (historyTerms told) (present (inAll 1)) (two 0 pair-2 5 marker-0 (this commitment-1 1))
 unfolding same toBits bitsOf stepNode pathTop presentWith commitmentAt epochAt
@@ -200,9 +197,10 @@ history-holds : Hold (proofTests plain name after (historyTerms told) (historyAs
 unfolding upFrom topPower log2 proofTests pathTests
 history-holds = (eq-same D.after-is, (told-1 .0, (told-1 .1, (told-2 .0, (told-2 .1, (told-3 .0, (told-3 .1, (told-4 .0, (told-4 .1, (told-5 .0, (told-5 .1, (told-6 .0, (told-6 .1, (told-7 .0, (told-7 .1, tt)))))))))))))))
 
-pub history-accepted : historyNumber (checkHistory plain after name history) ≡ 0
-unfolding every isName inputTests
-history-accepted = ap historyNumber (history-accept plain after name history told history-read (refl, tt) history-holds)
+-- two versions by epoch 2
+pub history-accepted : historyReply (checkHistory plain after name history) ≡ reply 0 (2 ∷ 2 ∷ 28 ∷ [])
+unfolding every isName inputTests upFrom topPower log2 proofStrings pathStrings pathNodes
+history-accepted = ap historyReply (history-accept plain after name history told history-read (refl, tt) history-holds)
 
 -- ---- so the arrow's theorem speaks of them
 points : allAccepted plain before name lookup (step ∷ []) history ≡ true
