@@ -1,4 +1,4 @@
--- What start and publishing read and what they write: the words of proofs/Unread.antt and proofs/Changes.antt.
+-- What start, publishing, the writers and the tree level read and what they write: the words of proofs/Unread.antt and proofs/Changes.antt.
 use mathlib.Core.Path.{_≡_}
 use mathlib.Core.Logic.{_⊎_}
 use mathlib.Core.List.{List, [], _∷_, _++_, map}
