@@ -39,6 +39,10 @@ def values():
     out.update({"mark-%d" % j: label(2, j, NAME) for j in (0, 1)})
     out.update({"name": NAME, "start": d.heads[0], "before": d.heads[1], "after": d.heads[2]})
     out.update({"lookup": d.lookup(NAME, 1), "step": d.audit(2), "history": d.history(NAME, 2)})
+    out["wrong"] = sha(b"\x01" + bytes(2) + bytes(32) + bytes(32) + out["pair-2"])
+    # the first sibling of the last path, which has two steps and this leaf, is 32 zero bytes
+    at = len(out["history"]) - 103
+    out["broken"] = server.pasted(out["history"], at, bytes(32))
     out.update(first_publishing())
     return out
 

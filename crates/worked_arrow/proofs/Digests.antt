@@ -142,6 +142,14 @@ pub all-2-is : F.sha256 (nodeString (inner [] pair-1 pair-2)) ≡ all-2
 unfolding F.be64 F.zeros F.pad F.parse F.digest be toBits bitsOf fromBits pack leafString innerString nothingString headBytes headString labelString commitmentString
 all-2-is = fast-is (nodeString (inner [] pair-1 pair-2))
 
+-- a root over nothing that stands there
+abbrev pub wrong : Bytes
+wrong = 122 ∷ 115 ∷ 102 ∷ 59 ∷ 198 ∷ 190 ∷ 221 ∷ 30 ∷ 22 ∷ 107 ∷ 128 ∷ 222 ∷ 188 ∷ 77 ∷ 92 ∷ 159 ∷ 30 ∷ 36 ∷ 3 ∷ 167 ∷ 94 ∷ 173 ∷ 89 ∷ 215 ∷ 211 ∷ 186 ∷ 54 ∷ 133 ∷ 136 ∷ 255 ∷ 248 ∷ 107 ∷ []
+
+pub wrong-is : F.sha256 (nodeString (inner [] (zeros 32) pair-2)) ≡ wrong
+unfolding F.be64 F.zeros F.pad F.parse F.digest be toBits bitsOf fromBits pack leafString innerString nothingString headBytes headString labelString commitmentString
+wrong-is = fast-is (nodeString (inner [] (zeros 32) pair-2))
+
 -- *old*: version 1, from epoch 2 on, and the roots
 abbrev pub gone-1 : Bytes
 gone-1 = 80 ∷ 34 ∷ 203 ∷ 120 ∷ 196 ∷ 109 ∷ 83 ∷ 70 ∷ 95 ∷ 13 ∷ 218 ∷ 181 ∷ 36 ∷ 90 ∷ 48 ∷ 183 ∷ 248 ∷ 196 ∷ 122 ∷ 93 ∷ 34 ∷ 83 ∷ 216 ∷ 129 ∷ 47 ∷ 73 ∷ 92 ∷ 28 ∷ 57 ∷ 155 ∷ 192 ∷ 113 ∷ []
