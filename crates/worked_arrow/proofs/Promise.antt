@@ -21,7 +21,7 @@ use Rattle.paper.specs.Shows.{Place, inAll, inOld, asMarker, kindOf, numberOf, 
 use Rattle.paper.specs.Lookup.{lookupAsked, lookupField, lookupTerms, checkLookup}
 use Rattle.paper.specs.History.{historyAsked, historyField, historyTerms, historyRead, checkHistory}
 use Rattle.paper.specs.Audit.{opened, fresh, Audit, auditField, recordOf, olds, news, before?, inOrder, recordRule, ofAll, ofOld, auditTests, auditStrings, checkAudit}
-use Rattle.paper.specs.Answer.{reply, lookupReply, historyReply, auditReply}
+use Rattle.paper.specs.Answer.{Reply, reply, lookupReply, historyReply, auditReply}
 use Rattle.paper.specs.Arrow.{AuditStep, Agrees, Collision, hashed}
 use Rattle.paper.proofs.Bytes.{bytewise, eq-same}
 use Rattle.paper.proofs.Arrow.{plain-sized}
@@ -249,7 +249,9 @@ history-to-the-end = ap historyReply (verdict-all _ _ (inputTests after name) (r
 -- ---- so the arrow's theorem speaks of them
 points : allAccepted plain before name lookup (step ∷ []) history ≡ true
 unfolding allAccepted
-points = rw (lookup-accepted, step-accepted, history-accepted)
+points =
+    let number : Reply → ℕ = λ r. r .number in
+    rw (ap number lookup-accepted, ap number step-accepted, ap number history-accepted)
 
 pub promise : Agrees (checkLookup plain before name lookup) lookup (step ∷ []) (checkHistory plain after name history) history
     ⊎ Collision (hashed plain name lookup (step ∷ []) history)
