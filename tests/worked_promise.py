@@ -1,6 +1,6 @@
 #!/usr/bin/env python3
 """worked_promise.py NAME: prints a proof of crates/worked_arrow from its template, worked_NAME.antt.in. The bytes are those of a
-directory in which a key was replaced, a lookup before, a history after and the audit step between.
+directory in which a key was replaced, a lookup before, a history after and the audit step between, and of its first publishing.
 
 @x@ stands for bytes; a line `@x: string` for x, the digest of the string, and the theorem `x-is` that it is."""
 import os
@@ -8,6 +8,7 @@ import re
 import sys
 
 sys.path.insert(0, os.path.dirname(os.path.abspath(__file__)))
+import server
 from directory import Directory, label, sha
 
 NAME = b"ida"
@@ -38,7 +39,20 @@ def values():
     out.update({"mark-%d" % j: label(2, j, NAME) for j in (0, 1)})
     out.update({"name": NAME, "start": d.heads[0], "before": d.heads[1], "after": d.heads[2]})
     out.update({"lookup": d.lookup(NAME, 1), "step": d.audit(2), "history": d.history(NAME, 2)})
+    out["wrong"] = sha(b"\x01" + bytes(2) + bytes(32) + bytes(32) + out["pair-2"])
+    # the first sibling of the last path, which has two steps and this leaf, is 32 zero bytes
+    at = len(out["history"]) - 103
+    out["broken"] = server.pasted(out["history"], at, bytes(32))
+    out.update(first_publishing())
     return out
+
+
+def first_publishing():
+    (key, opening), field = KEYS[0], lambda b: bytes([len(b)]) + b
+    batch = server.UPDATE.pack(field(NAME), field(key), opening)
+    count, epoch, begun = server.start(bytes(64))
+    _, _, records, heads = server.publish(bytes(server.RECORD.size), begun, count, epoch, batch)
+    return {"begun": begun, "batch": batch, "records": records, "heads": heads}
 
 
 def antt(b):

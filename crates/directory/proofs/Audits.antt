@@ -1,7 +1,7 @@
 -- Audits from what publishing left: each step is accepted between the heads of its epochs. Assumes nothing.
 use mathlib.Core.Path.{_≡_, ap, _∙_, subst}
 use mathlib.Core.Bool.{_&&_}
-use mathlib.Core.List.{List}
+use mathlib.Core.List.{List, [], _∷_}
 use Prim.Native.Nat.{ℕ, zero, suc, _-_, _≤_}
 use native.Mathlib.Omega.{arith}
 use lib.Dec.{leb}
@@ -14,12 +14,13 @@ use Rattle.paper.specs.Table.{Record, headAt, allAt, oldAt, distinct}
 use Rattle.paper.specs.Write.{Wrote, auditProof, writeAudit}
 use Rattle.paper.specs.Left.{Left}
 use Rattle.paper.specs.Standing.{Standing}
+use Rattle.paper.specs.Answer.{reply, auditReply}
 use Rattle.paper.specs.declared.State.{State}
 use Rattle.paper.specs.declared.WriteAnswer.the-variants as W
 use Rattle.paper.specs.declared.AuditAnswer.the-variants as A
 use Rattle.paper.proofs.Lists.{and-both}
 use Rattle.paper.proofs.Writers.{answered}
-use Rattle.paper.proofs.Demand2.{audit-accepted}
+use Rattle.paper.proofs.Demand2.{audit-answered}
 use Rattle.directory.specs.Own.{directory, auditAnswer}
 use Rattle.directory.proofs.Standing.{left-stands}
 use Rattle.directory.proofs.Writers.{answers}
@@ -37,7 +38,7 @@ module _ (lab : Labelling) (sized : Sized lab) {records heads : Bytes} {state : 
   accepted zero l k = absurd (omega arith)
   accepted (suc t) l k =
       let e : t ≡ suc t - 1 = omega arith in
-      subst (λ o. checkAudit (headAt heads o) (headAt heads (suc t)) (auditField .bytes (auditProof lab heads (suc t) rs)) ≡ A.Accepted o (suc t) (length (auditStrings (auditProof lab heads (suc t) rs)))) e (audit-accepted lab sized stands t k)
+      subst (λ o. checkAudit (headAt heads o) (headAt heads (suc t)) (auditField .bytes (auditProof lab heads (suc t) rs)) ≡ A.Accepted o (suc t) (length (auditStrings (auditProof lab heads (suc t) rs)))) e (audit-answered lab sized stands t k)
 
   module _ (t : ℕ) (out : Bytes) where
     -- ---- what the writer wrote
@@ -46,9 +47,14 @@ module _ (lab : Labelling) (sized : Sized lab) {records heads : Bytes} {state : 
       pub audit-wrote : Wrote lab records heads state out (leb 1 t) t (λ rs. distinct (allAt lab (t - 1) rs) && (distinct (oldAt lab (t - 1) rs) && (distinct (allAt lab t rs) && distinct (oldAt lab t rs)))) (λ rs. auditField .bytes (auditProof lab heads t rs)) rs n
       audit-wrote = answered lab records heads state out (leb 1 t) t _ _ rs (stands .read) n s written
 
-      -- "every .. audit proof .. is accepted at its epoch's head, with the directory's own answer"
-      pub audit-kept : checkAudit (headAt heads (t - 1)) (headAt heads t) (take n (writeAudit lab records heads state out t .out)) ≡ auditAnswer lab t rs heads
-      audit-kept = let w = audit-wrote in ap (checkAudit (headAt heads (t - 1)) (headAt heads t)) (w .bytes) ∙ accepted t (leb-true 1 t (w .input-good)) (w .reached)
+      -- the answer is the directory's own
+      pub audit-is : checkAudit (headAt heads (t - 1)) (headAt heads t) (take n (writeAudit lab records heads state out t .out)) ≡ auditAnswer lab t rs heads
+      audit-is = let w = audit-wrote in ap (checkAudit (headAt heads (t - 1)) (headAt heads t)) (w .bytes) ∙ accepted t (leb-true 1 t (w .input-good)) (w .reached)
+
+      -- "every .. audit proof .. is accepted at its epoch's head, with the directory's own answer": number 0, both epochs and the count
+      pub audit-kept : auditReply (checkAudit (headAt heads (t - 1)) (headAt heads t) (take n (writeAudit lab records heads state out t .out)))
+          ≡ reply 0 ((t - 1) ∷ t ∷ length (auditStrings (auditProof lab heads t rs)) ∷ [])
+      audit-kept = ap auditReply audit-is
 
     -- ---- and the writer does answer
 

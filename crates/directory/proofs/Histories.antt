@@ -21,6 +21,7 @@ use Rattle.paper.specs.History.{historyAsked, historyField, historyStrings, che
 use Rattle.paper.specs.Table.{Record, headAt, allAt}
 use Rattle.paper.specs.Write.{Wrote, itemOf, versionsBy, leavesAt, unclashed, historyProof, writeHistory}
 use Rattle.paper.specs.Left.{Left}
+use Rattle.paper.specs.Answer.{reply, historyReply}
 use Rattle.paper.specs.Arrow.{toldAt, toldBy, told, Collision}
 use Rattle.paper.specs.Standing.{Standing, RecordFits}
 use Rattle.paper.specs.declared.State.{State}
@@ -36,7 +37,7 @@ use Rattle.paper.proofs.Records.{versions-run, runs-at}
 use Rattle.paper.proofs.Leaves.{own-in, version-leaf}
 use Rattle.paper.proofs.Complete.{Clear, clear, shows-leaf, paths-fit}
 use Rattle.paper.proofs.Writers.{answered}
-use Rattle.paper.proofs.Demand2.{history-accepted}
+use Rattle.paper.proofs.Demand2.{history-answered}
 use Rattle.directory.specs.Own.{directory, tells, ownHistory, historyAnswer}
 use Rattle.directory.specs.Clash.{labelStrings}
 use Rattle.directory.proofs.Standing.{left-stands}
@@ -73,7 +74,7 @@ module _ (lab : Labelling) (sized : Sized lab) {records heads : Bytes} {state : 
   accepted : t ≤ state .epoch → isName name ≡ true → unclashed lab name t rs plan ≡ true → checkHistory lab (headAt heads t) name (historyField .bytes proof) ≡ historyAnswer lab name t rs heads
   unfolding ownHistory
   accepted k n u =
-      history-accepted lab sized stands name t k n u ∙ ap (λ v. H.Accepted v t (length (historyStrings lab name proof))) (sym (length-map mine tells))
+      history-answered lab sized stands name t k n u ∙ ap (λ v. H.Accepted v t (length (historyStrings lab name proof))) (sym (length-map mine tells))
 
   -- ---- what it tells
 
@@ -144,9 +145,14 @@ module _ (lab : Labelling) (sized : Sized lab) {records heads : Bytes} {state : 
       pub history-wrote : Wrote lab records heads state out (isName name) t (λ rs. unclashed lab name t rs (historyAsked (length (versionsBy lab name t rs)) t)) (λ rs. historyField .bytes (historyProof lab name t rs heads)) rs n
       history-wrote = answered lab records heads state out (isName name) t _ _ rs (stands .read) n s written
 
-      -- "every .. history .. is accepted at its epoch's head, with the directory's own answer"
-      pub history-kept : checkHistory lab (headAt heads t) name (take n (writeHistory lab records heads state out name t .out)) ≡ historyAnswer lab name t rs heads
-      history-kept = let w = history-wrote in ap (checkHistory lab (headAt heads t) name) (w .bytes) ∙ accepted (w .reached) (w .input-good) (w .unclashed)
+      -- the answer is the directory's own
+      pub history-is : checkHistory lab (headAt heads t) name (take n (writeHistory lab records heads state out name t .out)) ≡ historyAnswer lab name t rs heads
+      history-is = let w = history-wrote in ap (checkHistory lab (headAt heads t) name) (w .bytes) ∙ accepted (w .reached) (w .input-good) (w .unclashed)
+
+      -- "every .. history .. is accepted at its epoch's head, with the directory's own answer": number 0, how many versions, the epoch and the count
+      pub history-kept : historyReply (checkHistory lab (headAt heads t) name (take n (writeHistory lab records heads state out name t .out)))
+          ≡ reply 0 (length (ownHistory lab name t rs) ∷ t ∷ length (historyStrings lab name proof) ∷ [])
+      history-kept = ap historyReply history-is
 
       -- and it tells just the name's own records by then
       pub history-tells : told (take n (writeHistory lab records heads state out name t .out)) ≡ ownHistory lab name t rs

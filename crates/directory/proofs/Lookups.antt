@@ -15,6 +15,7 @@ use Rattle.paper.specs.Lookup.{lookupAsked, lookupField, lookupStrings, lookupG
 use Rattle.paper.specs.Table.{Record, headAt, lastVersion}
 use Rattle.paper.specs.Write.{Wrote, itemOf, lastItem, versionsBy, unclashed, lookupProof, writeLookup}
 use Rattle.paper.specs.Left.{Left}
+use Rattle.paper.specs.Answer.{reply, lookupReply}
 use Rattle.paper.specs.Arrow.{lastTold, Collision}
 use Rattle.paper.specs.Standing.{Standing, RecordFits}
 use Rattle.paper.specs.Strings.{HeadSized}
@@ -22,12 +23,13 @@ use Rattle.paper.specs.declared.State.{State}
 use Rattle.paper.specs.declared.WriteAnswer.the-variants as W
 use Rattle.paper.proofs.Lists.{all-in, and-both}
 use Rattle.paper.proofs.Fits.{head-fits, digest-wide}
+use Rattle.paper.proofs.Accepted.{gives-reply}
 use Rattle.paper.proofs.Asked.{Only, lookup-only}
 use Rattle.paper.proofs.Records.{versions-run, run-count}
 use Rattle.paper.proofs.Fit.{head-fit}
 use Rattle.paper.proofs.Leaves.{own-in}
 use Rattle.paper.proofs.Writers.{answered}
-use Rattle.paper.proofs.Demand2.{lookup-accepted}
+use Rattle.paper.proofs.Demand2.{lookup-answered}
 use Rattle.paper.proofs.KeyPart.{key-accepted}
 use Rattle.directory.specs.Own.{directory, tells, ownHistory, ownLookup, lookupAnswer}
 use Rattle.directory.specs.Clash.{labelStrings}
@@ -77,7 +79,7 @@ module _ (lab : Labelling) (sized : Sized lab) {records heads : Bytes} {state : 
   accepted : t ≤ state .epoch → isName name ≡ true → unclashed lab name t rs asked ≡ true → checkLookup lab (headAt heads t) name (lookupField .bytes proof) ≡ lookupAnswer lab name t rs heads
   unfolding ownLookup ownHistory
   accepted k n u =
-      lookup-accepted lab sized stands name t k n u ∙ ap (λ v. lookupGives lab name v t (length (lookupStrings lab name proof))) (last-version mine)
+      lookup-answered lab sized stands name t k n u ∙ ap (λ v. lookupGives lab name v t (length (lookupStrings lab name proof))) (last-version mine)
 
   head-sized : t ≤ state .epoch → HeadSized (proof .head)
   head-sized k = head-fits _ (head-fit _ (omega (arith, stands .epochs)) (stands .previous t k) (digest-wide _) (digest-wide _))
@@ -108,9 +110,15 @@ module _ (lab : Labelling) (sized : Sized lab) {records heads : Bytes} {state : 
       pub lookup-wrote : Wrote lab records heads state out (isName name) t (λ rs. unclashed lab name t rs (lookupAsked (lastVersion (versionsBy lab name t rs)))) (λ rs. lookupField .bytes (lookupProof lab name t rs heads)) rs n
       lookup-wrote = answered lab records heads state out (isName name) t _ _ rs (stands .read) n s written
 
-      -- "every lookup .. written from tables and state that publishing left is accepted at its epoch's head, with the directory's own answer"
-      pub lookup-kept : checkLookup lab (headAt heads t) name (take n (writeLookup lab records heads state out name t .out)) ≡ lookupAnswer lab name t rs heads
-      lookup-kept = let w = lookup-wrote in ap (checkLookup lab (headAt heads t) name) (w .bytes) ∙ accepted (w .reached) (w .input-good) (w .unclashed)
+      -- the answer is the directory's own
+      pub lookup-is : checkLookup lab (headAt heads t) name (take n (writeLookup lab records heads state out name t .out)) ≡ lookupAnswer lab name t rs heads
+      lookup-is = let w = lookup-wrote in ap (checkLookup lab (headAt heads t) name) (w .bytes) ∙ accepted (w .reached) (w .input-good) (w .unclashed)
+
+      -- "every lookup .. written from tables and state that publishing left is accepted at its epoch's head, with the directory's own answer":
+      -- number 0, the version, the epoch and the count
+      pub lookup-kept : lookupReply (checkLookup lab (headAt heads t) name (take n (writeLookup lab records heads state out name t .out)))
+          ≡ reply 0 (ownLookup lab name t rs .version ∷ t ∷ length (lookupStrings lab name proof) ∷ [])
+      lookup-kept = ap lookupReply lookup-is ∙ gives-reply lab name (ownLookup lab name t rs .version) t (length (lookupStrings lab name proof))
 
       pub key-kept : acceptedKey (lookupAnswer lab name t rs heads) (take n (writeLookup lab records heads state out name t .out)) ≡ ownLookup lab name t rs .key
       key-kept = let w = lookup-wrote in ap (acceptedKey (lookupAnswer lab name t rs heads)) (w .bytes) ∙ key-is (w .reached)

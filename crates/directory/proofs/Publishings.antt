@@ -38,7 +38,7 @@ left-further lab {records} {heads} {state} left batch b x e =
     (λ (rs, p, w).
     let q = ap (λ y. y .answer) (w .leaves) in
     subst (λ a. Left lab (publish lab records heads state batch .records) (publish lab records heads state batch .heads) (stateAfter a)) (sym q) (published left batch b q))
-    (λ (n, q). subst (λ y. Left lab (y .records) (y .heads) (stateAfter (y .answer))) (sym q) left)
+    (λ (n, _, q). subst (λ y. Left lab (y .records) (y .heads) (stateAfter (y .answer))) (sym q) left)
     (outcome lab records heads state batch))
 
 pub further-left : (lab : Labelling) {records heads : Bytes} {state : State} → Left lab records heads state → (batch : Bytes) → Bytewise batch

@@ -2,7 +2,7 @@
 -- Assumes nothing.
 use mathlib.Core.Path.{_≡_, refl, sym, ap, _∙_}
 use mathlib.Core.List.{List, [], _∷_}
-use Prim.Native.Nat.{ℕ}
+use Prim.Native.Nat.{ℕ, zero, suc}
 use native.Mathlib.Omega.{arith}
 use lib.ListN.{length}
 use Rattle.paper.specs.Bytes.{Bytes}
@@ -14,7 +14,7 @@ use Rattle.paper.specs.Shows.{Asked, Terms, Proof, pathTests, proofTests
 use Rattle.paper.specs.Lookup.{lookupAsked, lookupField, lookupTerms, lookupStrings, lookupGives, lookupRead, checkLookup}
 use Rattle.paper.specs.History.{historyAsked, historyField, historyTerms, historyStrings, historyRead, checkHistory}
 use Rattle.paper.specs.Audit.{Audit, auditField, auditTests, auditStrings, auditInputTests, auditRead, checkAudit}
-use Rattle.paper.specs.Answer.{lookupNumber, historyNumber, auditNumber}
+use Rattle.paper.specs.Answer.{reply, lookupReply, lookupNumber, historyNumber, auditNumber}
 use Rattle.paper.specs.declared.LookupAnswer.the-variants as L
 use Rattle.paper.specs.declared.HistoryAnswer.the-variants as H
 use Rattle.paper.specs.declared.AuditAnswer.the-variants as A
@@ -43,6 +43,11 @@ proof-numbered lab name d terms asked p = (omega arith, paths-numbered lab name 
 audit-numbered : (d d′ : Bytes) (a : Audit) → Numbered (auditTests d d′ a)
 unfolding auditTests
 audit-numbered d d′ a = (omega arith, (omega arith, (omega arith, (omega arith, (omega arith, (omega arith, (omega arith, (omega arith, (omega arith, tt)))))))))
+
+-- found or not registered, a lookup gives version, epoch and count
+pub gives-reply : (lab : Labelling) (name : Bytes) (v t c : ℕ) → lookupReply (lookupGives lab name v t c) ≡ reply 0 (v ∷ t ∷ c ∷ [])
+gives-reply lab name zero t c = refl
+gives-reply lab name (suc v) t c = refl
 
 module _ (lab : Labelling) (d name b : Bytes) where
   -- an accepted lookup

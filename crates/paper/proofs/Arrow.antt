@@ -17,10 +17,10 @@ use Rattle.paper.specs.Strings.{Head}
 use Rattle.paper.specs.Labelling.{Labelling, Tied, Sized}
 use Rattle.paper.specs.Layout.{parse}
 use Rattle.paper.specs.Shows.{Proof, Place, labelAt}
-use Rattle.paper.specs.Lookup.{lookupField, lookupAsked, lookupKeys, lookupTerms, lookupGives, lookupStrings, checkLookup, acceptedKey}
+use Rattle.paper.specs.Lookup.{lookupField, lookupAsked, lookupKeys, lookupTerms, lookupStrings, checkLookup, acceptedKey}
 use Rattle.paper.specs.History.{historyAsked, historyTerms, historyStrings, checkHistory}
 use Rattle.paper.specs.Audit.{auditField, auditStrings}
-use Rattle.paper.specs.Answer.{lookupNumber, historyNumber, answeredVersion, answeredEpoch, historyEpoch}
+use Rattle.paper.specs.Answer.{valueAt, lookupReply, lookupNumber, historyNumber, answeredVersion, answeredEpoch, historyEpoch}
 use Rattle.paper.specs.declared.LookupAnswer.{LookupAnswer}
 use Rattle.paper.specs.declared.HistoryAnswer.{HistoryAnswer}
 use Rattle.paper.specs.Arrow.{Told, unregistered, toldAt, toldBy, told, lastTold, currentAt, AuditStep, Audited, lookupHashed, historyHashed, auditHashed, stepsHashed, hashed, Collision, Agrees}
@@ -33,7 +33,7 @@ use Rattle.paper.proofs.Collide.{OneToOne, collide-or-not, hashedIn}
 use Rattle.paper.proofs.Labelling.{tied-sized}
 use Rattle.paper.proofs.Shown.{Within, label-size}
 use Rattle.paper.proofs.Agree.{Current, LookedUp, nobody, somebody, agree}
-use Rattle.paper.proofs.Accepted.{lookup-told, history-told, audit-told}
+use Rattle.paper.proofs.Accepted.{gives-reply, lookup-told, history-told, audit-told}
 use Rattle.paper.proofs.Facts.{opens, lookup-says, history-says, audit-says}
 
 -- ---- the version that was current
@@ -95,10 +95,6 @@ module _ (U : List Bytes) (f : OneToOne U) where
 
 -- ---- demand 3
 
-gives-version : (lab : Labelling) (name : Bytes) (v t c : ℕ) → (answeredVersion (lookupGives lab name v t c) ≡ v) × (answeredEpoch (lookupGives lab name v t c) ≡ t)
-gives-version lab name zero t c = (refl, refl)
-gives-version lab name (suc v) t c = (refl, refl)
-
 told-version : (q : Proof) (v : ℕ) → versionTold q v .version ≡ v
 unfolding versionTold
 told-version q zero = refl
@@ -146,10 +142,10 @@ module _ (lab : Labelling) (tied : Tied lab) (name d d′ lookup history : Bytes
       let says = lookup-says lab sized name U f d lookup lookup-bytes k i₁ in
       let (cur, key) = agree (hashedIn U f) (λ x. labelAt lab name x) (label-size lab sized name U f) (p .head) (q .head) c o o′
       (q .number) _ _ _ (history-says lab sized name U f d′ history history-bytes m i₃) (p .number) _ says in
-      let (v, t) = gives-version lab name (p .number) (p .head .epoch) (length (lookupStrings lab name p)) in
+      let r = ap lookupReply (k .answer) ∙ gives-reply lab name (p .number) (p .head .epoch) (length (lookupStrings lab name p)) in
       agreed (checkLookup lab d name lookup) lookup steps (checkHistory lab d′ name history) history q (p .number) (p .head .epoch)
-      (ap answeredVersion (k .answer) ∙ v)
-      (ap answeredEpoch (k .answer) ∙ t)
+      (ap (valueAt 0) r)
+      (ap (valueAt 1) r)
       (ap (λ r. currentAt (p .head .epoch) (toldBy r)) (m .found) ∙ current-told q (p .head .epoch) (q .number) (p .number) cur)
       (told-key _ _ _ q (p .number) _ says key)
       (ap (λ s. p .head .epoch + s) (sym n) ∙ chain-epochs (hashedIn U f) (p .head) (q .head) c o o′ ∙ sym (ap historyEpoch (m .answer)))

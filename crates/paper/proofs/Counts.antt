@@ -5,7 +5,7 @@ use mathlib.Core.List.{List, [], _∷_, _++_, map}
 use Prim.Native.Nat.{ℕ, zero, suc, _+_, _*_, _≤_}
 use native.Mathlib.Omega.{arith}
 use native.Mathlib.Nat.{suc-mul, mul-le-mul-right}
-use lib.ListN.{length, getD, length-append, length-map}
+use lib.ListN.{length, length-append, length-map}
 use Rattle.paper.specs.Lists.{All}
 use Rattle.paper.specs.Bytes.{Bytes, Bytewise}
 use Rattle.paper.specs.Bits.{Bits}
@@ -17,8 +17,9 @@ use Rattle.paper.specs.Fields.{pathField}
 use Rattle.paper.specs.Shows.{Asked, Proof, kindOf, numberOf, labelAt, pathStrings, proofStrings, proofTests, inputTests}
 use Rattle.paper.specs.Lookup.{lookupAsked, lookupKeys, lookupField, lookupStrings, lookupRead, lookupGives, lookupTerms, checkLookup}
 use Rattle.paper.specs.declared.LookupAnswer.the-variants.{Refused}
-use Rattle.paper.specs.Answer.{lookupValues}
+use Rattle.paper.specs.Answer.{valueAt, answeredDigests}
 use Rattle.paper.proofs.Verdicts.{verdict-cases}
+use Rattle.paper.proofs.Accepted.{gives-reply}
 use Rattle.paper.proofs.Layouts.{bytes-parse}
 use Rattle.paper.proofs.Proofs.{lookup-lawful}
 use Rattle.paper.proofs.Fits.{path-fits, proof-fits}
@@ -75,26 +76,22 @@ module _ (lab : Labelling) (tied : Tied lab) (name : Bytes) where
       )
 
   -- whatever the bytes, no answer reports more
-  pub lookup-counts : (d b : Bytes) → Bytewise b → getD (lookupValues (checkLookup lab d name b)) 2 0 ≤ 773 + 3 * tied .each
+  pub lookup-counts : (d b : Bytes) → Bytewise b → answeredDigests (checkLookup lab d name b) ≤ 773 + 3 * tied .each
   unfolding checkLookup
   lookup-counts d b w =
       ⊎-elim (λ (_, e). rw e (read (parse lookupField b) refl)) (λ (n, _, e). rw e (omega arith))
       (verdict-cases Refused (lookupRead lab name d (parse lookupField b)) (inputTests d name))
     where
-      gives : (v t c : ℕ) → getD (lookupValues (lookupGives lab name v t c)) 2 0 ≡ c
-      gives zero t c = refl
-      gives (suc v) t c = refl
-
-      read : (m : Read Proof) → parse lookupField b ≡ m → getD (lookupValues (lookupRead lab name d m)) 2 0 ≤ 773 + 3 * tied .each
+      read : (m : Read Proof) → parse lookupField b ≡ m → answeredDigests (lookupRead lab name d m) ≤ 773 + 3 * tied .each
       read bad q = omega arith
       read (got p r) q =
           let (f, _) = bytes-parse lookup-lawful b p r w q in
           let c = length (lookupStrings lab name p) in
           ⊎-elim
-          (λ (_, e). rw (e, gives (p .number) (p .head .epoch) c) (lookup-strings-most p f))
+          (λ (_, e). rw (e, ap (valueAt 2) (gives-reply lab name (p .number) (p .head .epoch) c)) (lookup-strings-most p f))
           (λ (n, _, e). rw e (omega arith))
           (verdict-cases Refused (lookupGives lab name (p .number) (p .head .epoch) c) (proofTests lab name d (lookupTerms p) (lookupAsked (p .number)) p))
 
 -- "a lookup has at most 776"
-pub lookup-most : (d name b : Bytes) → Bytewise b → getD (lookupValues (checkLookup plain d name b)) 2 0 ≤ 776
+pub lookup-most : (d name b : Bytes) → Bytewise b → answeredDigests (checkLookup plain d name b) ≤ 776
 lookup-most d name b w = lookup-counts plain plain-tied name d b w

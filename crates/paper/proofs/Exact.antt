@@ -1,9 +1,9 @@
 -- A checker accepts exactly where bounds, layout and every rule of specs/Rules.antt hold, and refuses by a number exactly where its cause holds
 -- and no earlier test refuses. The proof is taken to be bytes. Assumes nothing.
-use mathlib.Core.Path.{_≡_, refl}
+use mathlib.Core.Path.{_≡_, refl, ap, _∙_}
 use mathlib.Core.Logic.{_↔_}
 use mathlib.Core.Bool.{_&&_}
-use mathlib.Core.List.{List}
+use mathlib.Core.List.{List, [], _∷_}
 use Prim.Native.Nat.{ℕ, suc}
 use lib.Dec.{eqb}
 use lib.ListN.{length}
@@ -17,18 +17,16 @@ use Rattle.paper.specs.Tree.{rootDigest}
 use Rattle.paper.specs.Fields.{isName}
 use Rattle.paper.specs.Verdict.{Hold}
 use Rattle.paper.specs.Shows.{Proof, inputTests}
-use Rattle.paper.specs.Lookup.{lookupAsked, lookupKeys, lookupField, lookupStrings, lookupGives, checkLookup}
+use Rattle.paper.specs.Lookup.{lookupAsked, lookupKeys, lookupField, lookupStrings, checkLookup}
 use Rattle.paper.specs.History.{historyAsked, historyField, historyStrings, checkHistory}
 use Rattle.paper.specs.Audit.{AuditRecord, Audit, auditField, olds, news, inOrder, Which, ofAll, ofOld, recordRule, listTests, auditTests, auditStrings, checkAudit}
-use Rattle.paper.specs.Answer.{lookupNumber, historyNumber, auditNumber}
+use Rattle.paper.specs.Answer.{reply, lookupReply, lookupNumber, historyReply, historyNumber, auditReply, auditNumber}
 use Rattle.paper.specs.Rules.{Bounds, HeadBounds, LaidOut, LookupRules, HistoryRules, Listed, ListRules, Joined, AuditRules, LookupMeets, HistoryMeets, AuditMeets}
 use Rattle.paper.specs.Broken.{lookupInOrder, historyInOrder, auditInOrder, LookupRefuses, HistoryRefuses, AuditRefuses}
 use Rattle.paper.specs.Refusals.{lookupTests, historyTests}
-use Rattle.paper.specs.declared.HistoryAnswer.the-variants as H
-use Rattle.paper.specs.declared.AuditAnswer.the-variants as A
 use Rattle.paper.proofs.Proofs.{lookup-lawful, history-lawful, audit-lawful}
 use Rattle.paper.proofs.Fits.{proof-fits}
-use Rattle.paper.proofs.Accepted.{lookup-accept, history-accept, audit-accept}
+use Rattle.paper.proofs.Accepted.{gives-reply, lookup-accept, history-accept, audit-accept}
 use Rattle.paper.proofs.Reflect.{Tells, both-tell, eq-tells, same-tells, name-tells, records-tell, order-tells, pairs-tell}
 use Rattle.paper.proofs.Refusals.{lookup-decided, history-decided, audit-decided}
 use Rattle.paper.proofs.Checked.{Alike, laid-got, checker-holds, checker-refuses}
@@ -138,20 +136,21 @@ module _ (lab : Labelling) (d name b : Bytes) (w : Bytewise b) where
         λ m. answers (join (m .bounds, (m .proof, m .laid, history-of (m .proof) (m .laid) .1 (m .rules)))),
       )
 
-  -- with the value's own answer
+  -- "An accepted lookup gives its version, a history its n, each with the head's epoch and its digests"; "the count is its length"
   pub lookup-answers : (m : LookupMeets lab d name b)
-      → checkLookup lab d name b ≡ lookupGives lab name (m .proof .number) (m .proof .head .epoch) (length (lookupStrings lab name (m .proof)))
+      → lookupReply (checkLookup lab d name b) ≡ reply 0 (m .proof .number ∷ m .proof .head .epoch ∷ length (lookupStrings lab name (m .proof)) ∷ [])
   unfolding inputTests
   lookup-answers m =
-      lookup-accept lab d name b (m .proof) (laid-got lookupField lookup-lawful b w (m .proof) (m .laid))
-      (bounds-tell d name .1 (m .bounds), tt) (lookup-of (m .proof) (m .laid) .1 (m .rules))
+      ap lookupReply (lookup-accept lab d name b (m .proof) (laid-got lookupField lookup-lawful b w (m .proof) (m .laid))
+      (bounds-tell d name .1 (m .bounds), tt) (lookup-of (m .proof) (m .laid) .1 (m .rules)))
+      ∙ gives-reply lab name (m .proof .number) (m .proof .head .epoch) (length (lookupStrings lab name (m .proof)))
 
   pub history-answers : (m : HistoryMeets lab d name b)
-      → checkHistory lab d name b ≡ H.Accepted (m .proof .number) (m .proof .head .epoch) (length (historyStrings lab name (m .proof)))
+      → historyReply (checkHistory lab d name b) ≡ reply 0 (m .proof .number ∷ m .proof .head .epoch ∷ length (historyStrings lab name (m .proof)) ∷ [])
   unfolding inputTests
   history-answers m =
-      history-accept lab d name b (m .proof) (laid-got historyField history-lawful b w (m .proof) (m .laid))
-      (bounds-tell d name .1 (m .bounds), tt) (history-of (m .proof) (m .laid) .1 (m .rules))
+      ap historyReply (history-accept lab d name b (m .proof) (laid-got historyField history-lawful b w (m .proof) (m .laid))
+      (bounds-tell d name .1 (m .bounds), tt) (history-of (m .proof) (m .laid) .1 (m .rules)))
 
   -- "given exactly when"
   pub lookup-refuses : (n : ℕ) → ¬ (n ≡ 0) → (lookupNumber (checkLookup lab d name b) ≡ n) ↔ LookupRefuses lab d name b n
@@ -177,10 +176,12 @@ module _ (d d′ b : Bytes) (w : Bytewise b) where
         λ m. answers (join (m .bounds, (m .audit, m .laid, audit-rules d d′ (m .audit) .1 (m .rules)))),
       )
 
-  pub audit-answers : (m : AuditMeets d d′ b) → checkAudit d d′ b ≡ A.Accepted (m .audit .before .epoch) (m .audit .after .epoch) (length (auditStrings (m .audit)))
+  -- "an audit gives both epochs and its digests"
+  pub audit-answers : (m : AuditMeets d d′ b)
+      → auditReply (checkAudit d d′ b) ≡ reply 0 (m .audit .before .epoch ∷ m .audit .after .epoch ∷ length (auditStrings (m .audit)) ∷ [])
   audit-answers m =
-      audit-accept d d′ b (m .audit) (laid-got auditField audit-lawful b w (m .audit) (m .laid))
-      (heads-tell d d′ .1 (m .bounds), tt) (audit-rules d d′ (m .audit) .1 (m .rules))
+      ap auditReply (audit-accept d d′ b (m .audit) (laid-got auditField audit-lawful b w (m .audit) (m .laid))
+      (heads-tell d d′ .1 (m .bounds), tt) (audit-rules d d′ (m .audit) .1 (m .rules)))
 
   pub audit-refuses : (n : ℕ) → ¬ (n ≡ 0) → (auditNumber (checkAudit d d′ b) ≡ n) ↔ AuditRefuses d d′ b n
   audit-refuses n z =

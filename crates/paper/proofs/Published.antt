@@ -19,6 +19,7 @@ use Rattle.paper.specs.Verdict.{test}
 use Rattle.paper.specs.Table.{Record, Update, recordField, recordsWithin, headsWithin, headAt, counted, allLeaves, oldLeaves, allAt, oldAt, previousHead, headDigest, distinct}
 use Rattle.paper.specs.Publish.{Started, start, publish}
 use Rattle.paper.specs.Effect.{added}
+use Rattle.paper.specs.Answer.{publishNumber}
 use Rattle.paper.specs.Left.{Left, started, published}
 use Rattle.paper.specs.declared.State.{State}
 use Rattle.paper.specs.declared.StartAnswer.the-variants as S
@@ -43,7 +44,7 @@ module _ (lab : Labelling) (records heads : Bytes) (state : State) (kept : Kept 
   -- a success is one from the records that are kept
   kept-success : (batch : Bytes) (s : State) → publish lab records heads state batch .answer ≡ P.Published s → Success lab records heads state batch rs
   kept-success batch s e =
-      let (l, q, x) = success lab records heads state batch s e in
+      let (l, q, x) = success lab records heads state batch (ap publishNumber e) in
       let w : got l [] ≡ got rs [] = sym q ∙ kept .read in
       let v : l ≡ rs = cc in
       subst (λ l. Success lab records heads state batch l) v x

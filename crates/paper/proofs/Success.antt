@@ -18,12 +18,12 @@ use Rattle.paper.specs.Labelling.{Labelling}
 use Rattle.paper.specs.Layout.{Read, got, bad, seq, times, timesBytes, view, within, parse}
 use Rattle.paper.specs.Verdict.{test}
 use Rattle.paper.specs.Table.{Record, Update, recordField, updateField, recordsWithin, headsWithin, headAt, counted, headOf, headDigest}
-use Rattle.paper.specs.Publish.{Published, newRecord, unpublished, appended, publishTests, publishTable, publishBatch, batchWithin, publish}
+use Rattle.paper.specs.Publish.{newRecord, unpublished, appended, publishTests, publishTable, publishBatch, batchWithin, publish}
 use Rattle.paper.specs.Effect.{added}
+use Rattle.paper.specs.Answer.{publishNumber}
 use Rattle.paper.specs.declared.State.{State}
-use Rattle.paper.specs.declared.PublishAnswer.the-variants as P
 use Rattle.paper.proofs.Lists.{every-all, and-left, and-right}
-use Rattle.paper.proofs.Verdicts.{Hold, verdict-cases}
+use Rattle.paper.proofs.Verdicts.{Hold, first-numbered, verdict-cases}
 use Rattle.paper.proofs.Accepted.{whole-behind}
 use Rattle.paper.proofs.Layouts.{times-lawful, bytes-parse}
 use Rattle.paper.proofs.Proofs.{update-lawful}
@@ -56,38 +56,32 @@ module _ (lab : Labelling) (records heads : Bytes) (state : State) where
   Succeeds batch = (rs : List Record) × (counted records (state .count) ≡ got rs []) × Success batch rs
 
   abbrev Refuses : Bytes → Type 0
-  Refuses batch = (n : ℕ) × (publish lab records heads state batch ≡ unpublished lab records heads state n)
+  Refuses batch = (n : ℕ) × (0 < n) × (publish lab records heads state batch ≡ unpublished lab records heads state n)
 
   pub outcome : (batch : Bytes) → Succeeds batch ⊎ Refuses batch
   unfolding publish counted
   outcome batch = ⊎-elim
       (λ (h, q). reading (and-left _ _ (and-right (recordsWithin records) _ (h .0))) (parse (times (length batch / updateSize) updateField) batch) refl q)
-      (λ (n, _, q). inr (n, q))
+      (λ (n, f, q). inr (n, first-numbered _ (omega arith, tt) n f, q))
       (verdict-cases (unpublished lab records heads state) (publishBatch lab records heads state (parse (times (length batch / updateSize) updateField) batch)) (test INPUT (recordsWithin records && (headsWithin heads && batchWithin batch)) ∷ []))
     where
       tabled : headsWithin heads ≡ true → (us : List Update) → parse (times (length batch / updateSize) updateField) batch ≡ got us []
           → (m : Read (List Record)) → counted records (state .count) ≡ m → publish lab records heads state batch ≡ publishTable lab records heads state us m → Succeeds batch ⊎ Refuses batch
-      tabled w us o bad p q = inr (TABLE, q)
+      tabled w us o bad p q = inr (TABLE, omega arith, q)
       tabled w us o (got rs (x ∷ r)) p q = absurd (whole-behind (times (state .count) recordField .read (take (state .count * recordSize) records)) rs x r p)
       tabled w us o (got rs []) p q = ⊎-elim
           (λ (h, v). inl (rs, p, record { us = us; read = o; heads-within = w; holds = h; leaves = q ∙ v }))
-          (λ (n, _, v). inr (n, q ∙ v))
+          (λ (n, f, v). inr (n, first-numbered _ (omega arith, (omega arith, (omega arith, (omega arith, tt)))) n f, q ∙ v))
           (verdict-cases (unpublished lab records heads state) (appended lab records heads state rs (added lab state rs us)) (publishTests lab records heads state rs us (added lab state rs us)))
 
       reading : headsWithin heads ≡ true → (m : Read (List Update)) → parse (times (length batch / updateSize) updateField) batch ≡ m → publish lab records heads state batch ≡ publishBatch lab records heads state m
           → Succeeds batch ⊎ Refuses batch
-      reading w bad o q = inr (INPUT, q)
+      reading w bad o q = inr (INPUT, omega arith, q)
       reading w (got us []) o q = tabled w us o (counted records (state .count)) refl q
       reading w (got us (x ∷ r)) o q = absurd (whole-behind (times (length batch / updateSize) updateField .read batch) us x r o)
 
-  -- a refusal is no success
-  no-success : (n : ℕ) (s : State) (x : Published) → x ≡ unpublished lab records heads state n → x .answer ≡ P.Published s → ⊥
-  no-success n s x q e =
-      let a : P.Refused n (record { count = state .count; epoch = state .epoch }) ≡ P.Published s = ap (λ y. y .answer) (sym q) ∙ e in
-      let z : _≡_ {A = ℕ} 0 1 = cc in omega arith
-
-  pub success : (batch : Bytes) (s : State) → publish lab records heads state batch .answer ≡ P.Published s → Succeeds batch
-  success batch s e = ⊎-elim (λ w. w) (λ (n, q). absurd (no-success n s _ q e)) (outcome batch)
+  pub success : (batch : Bytes) → publishNumber (publish lab records heads state batch .answer) ≡ 0 → Succeeds batch
+  success batch e = ⊎-elim (λ w. w) (λ (n, k, q). let z : n ≡ 0 = ap (λ y. publishNumber (y .answer)) (sym q) ∙ e in absurd (omega arith)) (outcome batch)
 
   -- ---- the bytes of a success
 

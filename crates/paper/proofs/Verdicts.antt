@@ -46,6 +46,11 @@ first-cons t ts n = (λ f. to (f .passed) f refl, ⊎-elim here later)
     later : (t .holds ≡ true) × FirstFails ts n → FirstFails (t ∷ ts) n
     later (e, f) = record { passed = t ∷ f .passed; failed = f .failed; rest = f .rest; split = ap (λ l. t ∷ l) (f .split); hold = (e, f .hold); fails = f .fails; number = f .number }
 
+-- the first that fails has one
+pub first-numbered : (ts : List Test) → Numbered ts → (n : ℕ) → FirstFails ts n → 0 < n
+first-numbered ts h n f =
+    omega (arith, f .number, all-in _ ts h (f .failed) (subst (λ l. f .failed ∈ l) (f .split) (in-right (f .failed) (f .passed) _ (inl refl))))
+
 module _ {A : Type 0} (refuse : ℕ → A) (answer : A) where
   -- all hold, and it is the answer; or one is the first that fails, and it is the refusal with that number
   pub verdict-cases : (ts : List Test) → (Hold ts × (verdict refuse answer ts ≡ answer)) ⊎ ((n : ℕ) × FirstFails ts n × (verdict refuse answer ts ≡ refuse n))
@@ -95,7 +100,7 @@ module _ {A : Type 0} (refuse : ℕ → A) (answer : A) where
       none : (n : ℕ) → FirstFails ts n → verdict refuse answer ts ≡ refuse n → ⊥
       none n f q =
           let z : n ≡ 0 = sym (back n) ∙ ap number (sym q) ∙ e in
-          omega (arith, f .number, all-in _ ts h (f .failed) (subst (λ l. f .failed ∈ l) (f .split) (in-right (f .failed) (f .passed) _ (inl refl))))
+          omega (arith, first-numbered ts h n f)
 
 -- two verdicts over the same tests are alike where their refusals are, and their answers if all tests hold
 pub verdict-alike : {A B : Type 0} (R : A → B → Type 0) (f : ℕ → A) (a : A) (g : ℕ → B) (b : B) (ts : List Test) → ((n : ℕ) → R (f n) (g n)) → (Hold ts → R a b)

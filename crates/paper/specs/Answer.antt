@@ -1,6 +1,7 @@
--- Document 01's number and values for each case of an answer: 0 stands for no refusal.
-use mathlib.Core.List.{List, [], _∷_}
+-- Document 01's number and values for each case of an answer. What is promised of an answer is said of these.
+use mathlib.Core.List.{List, [], _∷_, _++_}
 use Prim.Native.Nat.{ℕ}
+use lib.ListN.{getD}
 use Rattle.paper.specs.declared.LookupAnswer.{LookupAnswer}
 use Rattle.paper.specs.declared.LookupAnswer.the-variants as L
 use Rattle.paper.specs.declared.HistoryAnswer.{HistoryAnswer}
@@ -17,84 +18,89 @@ use Rattle.paper.specs.declared.WriteAnswer.the-variants as W
 use Rattle.paper.specs.declared.TreeAnswer.{TreeAnswer}
 use Rattle.paper.specs.declared.TreeAnswer.the-variants as T
 
--- "Each returns its number only"; "An accepted lookup gives its version, .. with the head's epoch and its digests"
+-- what an answer comes to: its number, 0 where nothing is refused, and its values
+pub record Reply : Type 0 where
+  pub number : ℕ
+  pub values : List ℕ
+
+abbrev pub reply : ℕ → List ℕ → Reply
+reply n values = record { number = n; values = values }
+
+-- the i-th of the values, from 0; 0 where there is none
+abbrev pub valueAt : ℕ → Reply → ℕ
+valueAt i r = getD (r .values) i 0
+
+-- ---- the checkers
+
+-- "An accepted lookup gives its version, .. with the head's epoch and its digests". "Each returns its number only"
+abbrev pub lookupReply : LookupAnswer → Reply
+lookupReply (L.Found version epoch digests) = reply 0 (version ∷ epoch ∷ digests ∷ [])
+lookupReply (L.NotRegistered epoch digests) = reply 0 (0 ∷ epoch ∷ digests ∷ [])
+lookupReply (L.Refused number) = reply number []
+
 abbrev pub lookupNumber : LookupAnswer → ℕ
-lookupNumber (L.Found version epoch digests) = 0
-lookupNumber (L.NotRegistered epoch digests) = 0
-lookupNumber (L.Refused number) = number
+lookupNumber a = lookupReply a .number
 
-abbrev pub lookupValues : LookupAnswer → List ℕ
-lookupValues (L.Found version epoch digests) = version ∷ epoch ∷ digests ∷ []
-lookupValues (L.NotRegistered epoch digests) = 0 ∷ epoch ∷ digests ∷ []
-lookupValues (L.Refused number) = []
-
--- the version and the epoch that a lookup gives; 0 where it gives none
 abbrev pub answeredVersion : LookupAnswer → ℕ
-answeredVersion (L.Found version epoch digests) = version
-answeredVersion (L.NotRegistered epoch digests) = 0
-answeredVersion (L.Refused number) = 0
+answeredVersion a = valueAt 0 (lookupReply a)
 
 abbrev pub answeredEpoch : LookupAnswer → ℕ
-answeredEpoch (L.Found version epoch digests) = epoch
-answeredEpoch (L.NotRegistered epoch digests) = epoch
-answeredEpoch (L.Refused number) = 0
+answeredEpoch a = valueAt 1 (lookupReply a)
+
+abbrev pub answeredDigests : LookupAnswer → ℕ
+answeredDigests a = valueAt 2 (lookupReply a)
 
 -- "a history its n"
-abbrev pub historyNumber : HistoryAnswer → ℕ
-historyNumber (H.Accepted versions epoch digests) = 0
-historyNumber (H.Refused number) = number
+abbrev pub historyReply : HistoryAnswer → Reply
+historyReply (H.Accepted versions epoch digests) = reply 0 (versions ∷ epoch ∷ digests ∷ [])
+historyReply (H.Refused number) = reply number []
 
-abbrev pub historyValues : HistoryAnswer → List ℕ
-historyValues (H.Accepted versions epoch digests) = versions ∷ epoch ∷ digests ∷ []
-historyValues (H.Refused number) = []
+abbrev pub historyNumber : HistoryAnswer → ℕ
+historyNumber a = historyReply a .number
 
 abbrev pub historyEpoch : HistoryAnswer → ℕ
-historyEpoch (H.Accepted versions epoch digests) = epoch
-historyEpoch (H.Refused number) = 0
+historyEpoch a = valueAt 1 (historyReply a)
 
 -- "an audit gives both epochs and its digests"
-abbrev pub auditNumber : AuditAnswer → ℕ
-auditNumber (A.Accepted old new digests) = 0
-auditNumber (A.Refused number) = number
+abbrev pub auditReply : AuditAnswer → Reply
+auditReply (A.Accepted old new digests) = reply 0 (old ∷ new ∷ digests ∷ [])
+auditReply (A.Refused number) = reply number []
 
-abbrev pub auditValues : AuditAnswer → List ℕ
-auditValues (A.Accepted old new digests) = old ∷ new ∷ digests ∷ []
-auditValues (A.Refused number) = []
+abbrev pub auditNumber : AuditAnswer → ℕ
+auditNumber a = auditReply a .number
+
+-- ---- the server
 
 -- "The state is the record count and the current epoch."
 abbrev pub stateValues : State → List ℕ
 stateValues s = s .count ∷ s .epoch ∷ []
 
-abbrev pub startNumber : StartAnswer → ℕ
-startNumber (S.Started state) = 0
-startNumber (S.Refused number) = number
+abbrev pub startReply : StartAnswer → Reply
+startReply (S.Started state) = reply 0 (stateValues state)
+startReply (S.Refused number) = reply number []
 
-abbrev pub startValues : StartAnswer → List ℕ
-startValues (S.Started state) = stateValues state
-startValues (S.Refused number) = []
+abbrev pub startNumber : StartAnswer → ℕ
+startNumber a = startReply a .number
 
 -- "Each returns its number only, with the state as given where there is one."
+abbrev pub publishReply : PublishAnswer → Reply
+publishReply (P.Published state) = reply 0 (stateValues state)
+publishReply (P.Refused number state) = reply number (stateValues state)
+
 abbrev pub publishNumber : PublishAnswer → ℕ
-publishNumber (P.Published state) = 0
-publishNumber (P.Refused number state) = number
+publishNumber a = publishReply a .number
 
-abbrev pub publishValues : PublishAnswer → List ℕ
-publishValues (P.Published state) = stateValues state
-publishValues (P.Refused number state) = stateValues state
+-- a writer gives its proof's length behind the state
+abbrev pub writeReply : WriteAnswer → Reply
+writeReply (W.Written length state) = reply 0 (stateValues state ++ (length ∷ []))
+writeReply (W.Refused number state) = reply number (stateValues state)
 
--- a writer gives its proof's length
 abbrev pub writeNumber : WriteAnswer → ℕ
-writeNumber (W.Written length state) = 0
-writeNumber (W.Refused number state) = number
+writeNumber a = writeReply a .number
 
-abbrev pub writeValues : WriteAnswer → List ℕ
-writeValues (W.Written length state) = length ∷ stateValues state
-writeValues (W.Refused number state) = stateValues state
+abbrev pub treeReply : TreeAnswer → Reply
+treeReply (T.Written length) = reply 0 (length ∷ [])
+treeReply (T.Refused number) = reply number []
 
 abbrev pub treeNumber : TreeAnswer → ℕ
-treeNumber (T.Written length) = 0
-treeNumber (T.Refused number) = number
-
-abbrev pub treeValues : TreeAnswer → List ℕ
-treeValues (T.Written length) = length ∷ []
-treeValues (T.Refused number) = []
+treeNumber a = treeReply a .number

@@ -1,4 +1,4 @@
--- What start and publishing read and what they write: the words of proofs/Unread.antt and proofs/Changes.antt.
+-- What start, publishing, the writers and the tree level read and what they write: the words of proofs/Unread.antt and proofs/Changes.antt.
 use mathlib.Core.Path.{_≡_}
 use mathlib.Core.Logic.{_⊎_}
 use mathlib.Core.List.{List, [], _∷_, _++_, map}
@@ -10,6 +10,9 @@ use Rattle.paper.specs.Labelling.{Labelling}
 use Rattle.paper.specs.Layout.{got, times, parse}
 use Rattle.paper.specs.Table.{Record, Update, recordField, updateField, headAt, counted, headDigest}
 use Rattle.paper.specs.Publish.{Started, start, Published, newRecord, publish}
+use Rattle.paper.specs.Write.{Written}
+use Rattle.paper.specs.Level.{Laid}
+use Rattle.paper.specs.Answer.{reply, startReply, publishReply, stateValues, writeReply, treeReply}
 use Rattle.paper.specs.declared.State.{State}
 use Rattle.paper.specs.declared.StartAnswer.{StartAnswer}
 use Rattle.paper.specs.declared.StartAnswer.the-variants as S
@@ -80,19 +83,41 @@ pub record OnlyWithin (low high : ℕ) (before after : Bytes) : Type 0 where
   pub size : length after ≡ length before
   pub others : (i : ℕ) → (i < low) ⊎ (high ≤ i) → getD after i 0 ≡ getD before i 0
 
--- what a success has done. `rs` are the counted records, `us` the updates of the batch.
-pub record Changed (lab : Labelling) (records heads : Bytes) (state : State) (batch : Bytes) (next : State) : Type 0 where
+-- what starting has done. "Starting a directory .. writes head 0; it has no records."
+pub record StartChanged (lab : Labelling) (heads : Bytes) : Type 0 where
+  pub says : startReply (start lab heads .answer) ≡ reply 0 (0 ∷ 0 ∷ [])
+  pub head : headAt (start lab heads .heads) 0 ≡ headDigest lab heads 0 []
+  pub heads-only : OnlyWithin 0 wide heads (start lab heads .heads)
+
+-- what a success of publishing has done. `rs` are the counted records, `us` the updates of the batch.
+pub record Changed (lab : Labelling) (records heads : Bytes) (state : State) (batch : Bytes) : Type 0 where
   pub rs : List Record
   pub counted-records : counted records (state .count) ≡ got rs []
   pub us : List Update
   pub updates : parse (times (length batch / updateSize) updateField) batch ≡ got us []
   -- "The state is the record count and the current epoch."
-  pub epoch : next .epoch ≡ suc (state .epoch)
-  pub count : next .count ≡ state .count + length us
+  pub says : publishReply (publish lab records heads state batch .answer) ≡ reply 0 ((state .count + length us) ∷ suc (state .epoch) ∷ [])
   -- "Publishing appends the batch in its order with the next epoch."
   pub slots : SlotsHold (publish lab records heads state batch .records) (state .count) (added lab state rs us)
   -- "Publishing a batch closes an epoch and gives a 32-byte head."
   pub head : headAt (publish lab records heads state batch .heads) (suc (state .epoch)) ≡ headDigest lab heads (suc (state .epoch)) (rs ++ added lab state rs us)
   -- "Success writes only the named records, head or proof."
-  pub records-only : OnlyWithin (state .count * recordSize) (next .count * recordSize) records (publish lab records heads state batch .records)
+  pub records-only : OnlyWithin (state .count * recordSize) ((state .count + length us) * recordSize) records (publish lab records heads state batch .records)
   pub heads-only : OnlyWithin (suc (state .epoch) * wide) ((state .epoch + 2) * wide) heads (publish lab records heads state batch .heads)
+
+-- these bytes stand at the output's start, and the rest of it is as it was
+pub record Fronted (s before after : Bytes) : Type 0 where
+  pub bytes : take (length s) after ≡ s
+  pub rest : OnlyWithin 0 (length s) before after
+
+-- what a writer that succeeds has done: the proof of the counted records, its length, and the state as it was given
+pub record WriteChanged (records : Bytes) (state : State) (out : Bytes) (proof : List Record → Bytes) (x : Written) : Type 0 where
+  pub rs : List Record
+  pub counted-records : counted records (state .count) ≡ got rs []
+  pub says : writeReply (x .answer) ≡ reply 0 (stateValues state ++ (length (proof rs) ∷ []))
+  pub front : Fronted (proof rs) out (x .out)
+
+-- and a call of the tree level
+pub record TreeChanged (out s : Bytes) (x : Laid) : Type 0 where
+  pub says : treeReply (x .answer) ≡ reply 0 (length s ∷ [])
+  pub front : Fronted s out (x .out)

@@ -26,7 +26,7 @@ use Rattle.paper.specs.Table.{Record, updateField, recordsWithin, headsW
 use Rattle.paper.specs.Publish.{start, newRecord, once, batchWithin, publish}
 use Rattle.paper.specs.Write.{versionsBy, unclashed, lookupProof, historyProof, auditProof, writeLookup, writeHistory, writeAudit}
 use Rattle.paper.specs.Level.{entriesWithin, leavesOf, treeRoot, treePath}
-use Rattle.paper.specs.Answer.{lookupNumber, historyNumber, auditNumber, startNumber, publishNumber, writeNumber, treeNumber}
+use Rattle.paper.specs.Answer.{Reply, lookupReply, lookupNumber, historyReply, auditReply, stateValues, startReply, publishReply, writeReply, treeReply}
 use Rattle.paper.specs.Program.{line, programLine}
 use Rattle.paper.specs.declared.State.{State}
 use Rattle.paper.specs.declared.LookupAnswer.{LookupAnswer}
@@ -39,16 +39,18 @@ use Rattle.paper.specs.declared.WriteAnswer.the-variants as W
 use Rattle.paper.specs.declared.TreeAnswer.the-variants as T
 
 -- what an entry leaves (its answer, and all that it was lent) is decided by tests in an order; `refused n` has the number n, the state and
--- every byte as they were given
-pub record Decided {A : Type 0} (number : A → ℕ) (refused : ℕ → A) (order : List Test) (numbers : List ℕ) (left : A) : Type 0 where
+-- every byte as they were given, and `given` are the values of that state, or none
+pub record Decided {A : Type 0} (says : A → Reply) (given : List ℕ) (refused : ℕ → A) (order : List Test) (numbers : List ℕ) (left : A) : Type 0 where
   -- it answers exactly where every test holds
-  pub answers : (number left ≡ 0) ↔ Hold order
+  pub answers : (says left .number ≡ 0) ↔ Hold order
   -- "given exactly when": it refuses by n exactly where the first test that fails has the number n
-  pub refuses : (n : ℕ) → ¬ (n ≡ 0) → (number left ≡ n) ↔ FirstFails order n
+  pub refuses : (n : ℕ) → ¬ (n ≡ 0) → (says left .number ≡ n) ↔ FirstFails order n
   -- "either answers or refuses by a number from document 01"
-  pub known : (number left ≡ 0) ⊎ (number left ∈ numbers)
+  pub known : (says left .number ≡ 0) ⊎ (says left .number ∈ numbers)
+  -- "Each returns its number only, with the state as given where there is one."
+  pub only : ¬ (says left .number ≡ 0) → says left .values ≡ given
   -- "A refusal writes nothing .. and hands back the state it was given."
-  pub keeps : ¬ (number left ≡ 0) → left ≡ refused (number left)
+  pub keeps : ¬ (says left .number ≡ 0) → left ≡ refused (says left .number)
 
 -- the test that something was read, and behind it those of what was read
 abbrev pub reading : {A : Type 0} → ℕ → Read A → (A → List Test) → List Test
@@ -168,28 +170,28 @@ treePathOrder entries label absent out =
 
 -- every public entry's definition, with what it leaves where it refuses by n
 pub record EveryEntry (lab : Labelling) : Type 0 where
-  pub check-lookup : (d name b : Bytes) → Decided lookupNumber L.Refused (lookupOrder lab d name b) checkerNumbers (checkLookup lab d name b)
-  pub check-history : (d name b : Bytes) → Decided historyNumber H.Refused (historyOrder lab d name b) checkerNumbers (checkHistory lab d name b)
-  pub check-audit : (d d′ b : Bytes) → Decided auditNumber A.Refused (auditOrder d d′ b) checkerNumbers (checkAudit d d′ b)
+  pub check-lookup : (d name b : Bytes) → Decided lookupReply [] L.Refused (lookupOrder lab d name b) checkerNumbers (checkLookup lab d name b)
+  pub check-history : (d name b : Bytes) → Decided historyReply [] H.Refused (historyOrder lab d name b) checkerNumbers (checkHistory lab d name b)
+  pub check-audit : (d d′ b : Bytes) → Decided auditReply [] A.Refused (auditOrder d d′ b) checkerNumbers (checkAudit d d′ b)
   -- "a refusal .. gives the empty part at its start"
   pub accepted-key : (d name b : Bytes) → ¬ (lookupNumber (checkLookup lab d name b) ≡ 0) → acceptedKey (checkLookup lab d name b) b ≡ []
   -- "It prints one line": that of an answer which is decided so
-  pub program-line : (b : Bytes) → (a : LookupAnswer) × (programLine b ≡ line a) × Decided lookupNumber L.Refused (programOrder b) checkerNumbers a
+  pub program-line : (b : Bytes) → (a : LookupAnswer) × (programLine b ≡ line a) × Decided lookupReply [] L.Refused (programOrder b) checkerNumbers a
   pub starts : (heads : Bytes)
-      → Decided (λ x. startNumber (x .answer)) (λ n. record { answer = S.Refused n; heads = heads }) (startOrder heads) startNumbers (start lab heads)
+      → Decided (λ x. startReply (x .answer)) [] (λ n. record { answer = S.Refused n; heads = heads }) (startOrder heads) startNumbers (start lab heads)
   pub publishes : (records heads : Bytes) (state : State) (batch : Bytes)
-      → Decided (λ x. publishNumber (x .answer)) (λ n. record { answer = P.Refused n state; records = records; heads = heads })
+      → Decided (λ x. publishReply (x .answer)) (stateValues state) (λ n. record { answer = P.Refused n state; records = records; heads = heads })
       (publishOrder lab records heads state batch) publishNumbers (publish lab records heads state batch)
   pub write-lookup : (records heads : Bytes) (state : State) (out name : Bytes) (t : ℕ)
-      → Decided (λ x. writeNumber (x .answer)) (λ n. record { answer = W.Refused n state; out = out })
+      → Decided (λ x. writeReply (x .answer)) (stateValues state) (λ n. record { answer = W.Refused n state; out = out })
       (lookupWriterOrder lab records heads state out name t) writerNumbers (writeLookup lab records heads state out name t)
   pub write-history : (records heads : Bytes) (state : State) (out name : Bytes) (t : ℕ)
-      → Decided (λ x. writeNumber (x .answer)) (λ n. record { answer = W.Refused n state; out = out })
+      → Decided (λ x. writeReply (x .answer)) (stateValues state) (λ n. record { answer = W.Refused n state; out = out })
       (historyWriterOrder lab records heads state out name t) writerNumbers (writeHistory lab records heads state out name t)
   pub write-audit : (records heads : Bytes) (state : State) (out : Bytes) (t : ℕ)
-      → Decided (λ x. writeNumber (x .answer)) (λ n. record { answer = W.Refused n state; out = out })
+      → Decided (λ x. writeReply (x .answer)) (stateValues state) (λ n. record { answer = W.Refused n state; out = out })
       (auditWriterOrder lab records heads state out t) writerNumbers (writeAudit lab records heads state out t)
   pub tree-root : (entries out : Bytes)
-      → Decided (λ x. treeNumber (x .answer)) (λ n. record { answer = T.Refused n; out = out }) (treeRootOrder entries out) treeNumbers (treeRoot entries out)
+      → Decided (λ x. treeReply (x .answer)) [] (λ n. record { answer = T.Refused n; out = out }) (treeRootOrder entries out) treeNumbers (treeRoot entries out)
   pub tree-path : (entries label : Bytes) (absent : Bool) (out : Bytes)
-      → Decided (λ x. treeNumber (x .answer)) (λ n. record { answer = T.Refused n; out = out }) (treePathOrder entries label absent out) treeNumbers (treePath entries label absent out)
+      → Decided (λ x. treeReply (x .answer)) [] (λ n. record { answer = T.Refused n; out = out }) (treePathOrder entries label absent out) treeNumbers (treePath entries label absent out)

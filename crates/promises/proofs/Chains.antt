@@ -26,9 +26,9 @@ use Rattle.paper.specs.declared.AuditAnswer.{AuditAnswer}
 use Rattle.paper.specs.declared.AuditAnswer.the-variants as A
 use Rattle.promises.specs.Kept.{Kept, unlessRefused, keptBy, lookupKept, keyKept, historyKept, auditKept, firstBy, first}
 use Rattle.directory.proofs.Standing.{left-stands}
-use Rattle.directory.proofs.Lookups.{lookup-wrote, lookup-kept, key-kept}
-use Rattle.directory.proofs.Histories.{history-wrote, history-kept}
-use Rattle.directory.proofs.Audits.{audit-wrote, audit-kept}
+use Rattle.directory.proofs.Lookups.{lookup-wrote, lookup-is, key-kept}
+use Rattle.directory.proofs.Histories.{history-wrote, history-is}
+use Rattle.directory.proofs.Audits.{audit-wrote, audit-is}
 
 module _ {A : Type 0} (refuse : ℕ → A) (own : A) (x w : Written) (e : x ≡ w) (n : ℕ) (s : State) where
   refused : x .answer ≡ W.Refused n s → record { answer = refuse n; out = x .out } ≡ keptBy refuse own w
@@ -70,14 +70,14 @@ module _ (lab : Labelling) (sized : Sized lab) {records heads : Bytes} {state : 
 
       pub lookup-checked : (d : Bytes) → d ≡ headAt heads t → (a : LookupAnswer) → a ≡ checkLookup lab d name (take n (x .out)) → record { answer = a; out = x .out } ≡ lookupKept lab records heads state out name t
       unfolding lookupKept
-      lookup-checked d h a c = checked L.Refused _ x _ e n s q a (c ∙ ap₂ (λ d b. checkLookup lab d name b) h bytes ∙ lookup-kept lab sized left name t out n s written)
+      lookup-checked d h a c = checked L.Refused _ x _ e n s q a (c ∙ ap₂ (λ d b. checkLookup lab d name b) h bytes ∙ lookup-is lab sized left name t out n s written)
 
       pub key-checked : (d : Bytes) → d ≡ headAt heads t → (k : Bytes) → k ≡ acceptedKey (checkLookup lab d name (take n (x .out))) (take n (x .out)) → (key : Bytes) (a : Bool) → a ≡ same k key
           → record { answer = a; out = x .out } ≡ keyKept lab records heads state out name t key
       unfolding keyKept
       key-checked d h k g key a c =
           let f = g ∙ ap₂ (λ d b. acceptedKey (checkLookup lab d name b) b) h bytes
-          ∙ ap (λ a. acceptedKey a (take n (writeLookup lab records heads state out name t .out))) (lookup-kept lab sized left name t out n s written) ∙ key-kept lab sized left name t out n s written in
+          ∙ ap (λ a. acceptedKey a (take n (writeLookup lab records heads state out name t .out))) (lookup-is lab sized left name t out n s written) ∙ key-kept lab sized left name t out n s written in
           checked (λ n. false) _ x _ e n s q a (c ∙ ap (λ k. same k key) f)
 
   -- ---- histories
@@ -95,7 +95,7 @@ module _ (lab : Labelling) (sized : Sized lab) {records heads : Bytes} {state : 
       unfolding historyKept
       history-checked d h a c =
           checked H.Refused _ x _ e n s q a
-          (c ∙ ap₂ (λ d b. checkHistory lab d name b) h (ap (λ y. take n (y .out)) e) ∙ history-kept lab sized left name t out n s (sym (ap (λ y. y .answer) e) ∙ q))
+          (c ∙ ap₂ (λ d b. checkHistory lab d name b) h (ap (λ y. take n (y .out)) e) ∙ history-is lab sized left name t out n s (sym (ap (λ y. y .answer) e) ∙ q))
 
   -- ---- audits
 
@@ -121,7 +121,7 @@ module _ (lab : Labelling) (sized : Sized lab) {records heads : Bytes} {state : 
       audit-checked d d′ h h′ a c =
           checked A.Refused _ x _ e n s q a
           (c ∙ ap (λ d. checkAudit d d′ (take n (x .out))) h ∙ ap₂ (λ d b. checkAudit (headAt heads (t - 1)) d b) h′ (ap (λ y. take n (y .out)) e)
-          ∙ audit-kept lab sized left t out n s (sym (ap (λ y. y .answer) e) ∙ q))
+          ∙ audit-is lab sized left t out n s (sym (ap (λ y. y .answer) e) ∙ q))
 
 -- ---- from nothing
 

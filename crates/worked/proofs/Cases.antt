@@ -19,7 +19,7 @@ use Rattle.paper.specs.Shows.{Proof, meets, pathTests, pathStrings, proofString
 use Rattle.paper.specs.Lookup.{lookupField, checkLookup}
 use Rattle.paper.specs.History.{historyField, checkHistory}
 use Rattle.paper.specs.Audit.{Audit, auditField, checkAudit, recordOf, olds, news, inOrder, auditTests, auditStrings}
-use Rattle.paper.specs.Answer.{lookupNumber, lookupValues, historyNumber, historyValues, auditNumber, auditValues}
+use Rattle.paper.specs.Answer.{reply, lookupReply, historyReply, auditReply}
 use Rattle.paper.specs.Table.{headsWithin, byEpoch}
 use Rattle.paper.specs.Publish.{start}
 use Rattle.paper.specs.Program.{programLine, decimalIn}
@@ -88,7 +88,7 @@ bare-tree = over empty-is empty-is
 -- ---- starting, and each checker accepts
 
 -- starting a directory: the head of epoch 0
-pub head-zero : start plain (0 ∷ 0 ∷ 0 ∷ 0 ∷ 0 ∷ 0 ∷ 0 ∷ 0 ∷ 0 ∷ 0 ∷ 0 ∷ 0 ∷ 0 ∷ 0 ∷ 0 ∷ 0 ∷ 0 ∷ 0 ∷ 0 ∷ 0 ∷ 0 ∷ 0 ∷ 0 ∷ 0 ∷ 0 ∷ 0 ∷ 0 ∷ 0 ∷ 0 ∷ 0 ∷ 0 ∷ 0 ∷ []) .heads ≡ (90 ∷ 130 ∷ 232 ∷ 110 ∷ 236 ∷ 79 ∷ 141 ∷ 195 ∷ 212 ∷ 48 ∷ 213 ∷ 125 ∷ 72 ∷ 225 ∷ 238 ∷ 59 ∷ 20 ∷ 25 ∷ 96 ∷ 46 ∷ 48 ∷ 112 ∷ 7 ∷ 62 ∷ 2 ∷ 61 ∷ 51 ∷ 155 ∷ 104 ∷ 24 ∷ 108 ∷ 132 ∷ [])
+pub head-zero : start plain (zeros 32) .heads ≡ head-0
 unfolding headsWithin byEpoch start verdict pasted flatMap keep
 head-zero = ap (λ d. pasted (zeros 32) 0 d) (ap₂ (λ a o. F.sha256 (headString (record { epoch = 0; previous = zeros 32; all = a; old = o }))) bare-tree bare-tree ∙ head-0-is)
 
@@ -103,9 +103,9 @@ unfolding every be number same toBits bitsOf fromBits pack block fixed within se
 history-read = refl
 
 -- the history of a name that has none, at epoch 0: no path, one digest
-pub empty-history : historyValues (checkHistory plain (90 ∷ 130 ∷ 232 ∷ 110 ∷ 236 ∷ 79 ∷ 141 ∷ 195 ∷ 212 ∷ 48 ∷ 213 ∷ 125 ∷ 72 ∷ 225 ∷ 238 ∷ 59 ∷ 20 ∷ 25 ∷ 96 ∷ 46 ∷ 48 ∷ 112 ∷ 7 ∷ 62 ∷ 2 ∷ 61 ∷ 51 ∷ 155 ∷ 104 ∷ 24 ∷ 108 ∷ 132 ∷ []) (97 ∷ 110 ∷ 110 ∷ 97 ∷ []) (86 ∷ 75 ∷ 68 ∷ 0 ∷ 1 ∷ 2 ∷ 0 ∷ 0 ∷ 0 ∷ 0 ∷ 0 ∷ 0 ∷ 0 ∷ 0 ∷ 0 ∷ 0 ∷ 0 ∷ 0 ∷ 0 ∷ 0 ∷ 0 ∷ 0 ∷ 0 ∷ 0 ∷ 0 ∷ 0 ∷ 0 ∷ 0 ∷ 0 ∷ 0 ∷ 0 ∷ 0 ∷ 0 ∷ 0 ∷ 0 ∷ 0 ∷ 0 ∷ 0 ∷ 0 ∷ 0 ∷ 0 ∷ 0 ∷ 132 ∷ 171 ∷ 229 ∷ 2 ∷ 218 ∷ 220 ∷ 92 ∷ 132 ∷ 178 ∷ 182 ∷ 22 ∷ 237 ∷ 10 ∷ 164 ∷ 93 ∷ 136 ∷ 129 ∷ 33 ∷ 49 ∷ 120 ∷ 85 ∷ 224 ∷ 116 ∷ 1 ∷ 159 ∷ 100 ∷ 167 ∷ 231 ∷ 26 ∷ 201 ∷ 93 ∷ 0 ∷ 132 ∷ 171 ∷ 229 ∷ 2 ∷ 218 ∷ 220 ∷ 92 ∷ 132 ∷ 178 ∷ 182 ∷ 22 ∷ 237 ∷ 10 ∷ 164 ∷ 93 ∷ 136 ∷ 129 ∷ 33 ∷ 49 ∷ 120 ∷ 85 ∷ 224 ∷ 116 ∷ 1 ∷ 159 ∷ 100 ∷ 167 ∷ 231 ∷ 26 ∷ 201 ∷ 93 ∷ 0 ∷ 0 ∷ 0 ∷ [])) ≡ 0 ∷ 0 ∷ 1 ∷ []
+pub empty-history : historyReply (checkHistory plain head-0 anna history) ≡ reply 0 (0 ∷ 0 ∷ 1 ∷ [])
 unfolding every isName inputTests proofTests pathTests proofStrings pathStrings upFrom
-empty-history = ap historyValues (history-accept plain head-0 anna history no-history history-read (refl, tt) (eq-same head-0-is, tt))
+empty-history = ap historyReply (history-accept plain head-0 anna history no-history history-read (refl, tt) (eq-same head-0-is, tt))
 
 abbrev lookup : Bytes
 lookup = 86 ∷ 75 ∷ 68 ∷ 0 ∷ 1 ∷ 1 ∷ 0 ∷ 0 ∷ 0 ∷ 0 ∷ 0 ∷ 0 ∷ 0 ∷ 0 ∷ 0 ∷ 0 ∷ 0 ∷ 0 ∷ 0 ∷ 0 ∷ 0 ∷ 0 ∷ 0 ∷ 0 ∷ 0 ∷ 0 ∷ 0 ∷ 0 ∷ 0 ∷ 0 ∷ 0 ∷ 0 ∷ 0 ∷ 0 ∷ 0 ∷ 0 ∷ 0 ∷ 0 ∷ 0 ∷ 0 ∷ 0 ∷ 0 ∷ 132 ∷ 171 ∷ 229 ∷ 2 ∷ 218 ∷ 220 ∷ 92 ∷ 132 ∷ 178 ∷ 182 ∷ 22 ∷ 237 ∷ 10 ∷ 164 ∷ 93 ∷ 136 ∷ 129 ∷ 33 ∷ 49 ∷ 120 ∷ 85 ∷ 224 ∷ 116 ∷ 1 ∷ 159 ∷ 100 ∷ 167 ∷ 231 ∷ 26 ∷ 201 ∷ 93 ∷ 0 ∷ 132 ∷ 171 ∷ 229 ∷ 2 ∷ 218 ∷ 220 ∷ 92 ∷ 132 ∷ 178 ∷ 182 ∷ 22 ∷ 237 ∷ 10 ∷ 164 ∷ 93 ∷ 136 ∷ 129 ∷ 33 ∷ 49 ∷ 120 ∷ 85 ∷ 224 ∷ 116 ∷ 1 ∷ 159 ∷ 100 ∷ 167 ∷ 231 ∷ 26 ∷ 201 ∷ 93 ∷ 0 ∷ 0 ∷ 0 ∷ 0 ∷ 1 ∷ 0 ∷ 0 ∷ 219 ∷ 193 ∷ 180 ∷ 201 ∷ 0 ∷ 255 ∷ 228 ∷ 141 ∷ 87 ∷ 91 ∷ 93 ∷ 165 ∷ 198 ∷ 56 ∷ 4 ∷ 1 ∷ 37 ∷ 246 ∷ 93 ∷ 176 ∷ 254 ∷ 62 ∷ 36 ∷ 73 ∷ 75 ∷ 118 ∷ 234 ∷ 152 ∷ 100 ∷ 87 ∷ 217 ∷ 134 ∷ 3 ∷ []
@@ -125,9 +125,9 @@ unfolding toBits bitsOf stepNode pathTop
 path-root = ap (λ l. pathRoot (bitsOf l) path) label-is ∙ over empty-is refl
 
 -- a lookup of the same name: one path, which ends at nothing
-pub not-registered : lookupValues (checkLookup plain (90 ∷ 130 ∷ 232 ∷ 110 ∷ 236 ∷ 79 ∷ 141 ∷ 195 ∷ 212 ∷ 48 ∷ 213 ∷ 125 ∷ 72 ∷ 225 ∷ 238 ∷ 59 ∷ 20 ∷ 25 ∷ 96 ∷ 46 ∷ 48 ∷ 112 ∷ 7 ∷ 62 ∷ 2 ∷ 61 ∷ 51 ∷ 155 ∷ 104 ∷ 24 ∷ 108 ∷ 132 ∷ []) (97 ∷ 110 ∷ 110 ∷ 97 ∷ []) (86 ∷ 75 ∷ 68 ∷ 0 ∷ 1 ∷ 1 ∷ 0 ∷ 0 ∷ 0 ∷ 0 ∷ 0 ∷ 0 ∷ 0 ∷ 0 ∷ 0 ∷ 0 ∷ 0 ∷ 0 ∷ 0 ∷ 0 ∷ 0 ∷ 0 ∷ 0 ∷ 0 ∷ 0 ∷ 0 ∷ 0 ∷ 0 ∷ 0 ∷ 0 ∷ 0 ∷ 0 ∷ 0 ∷ 0 ∷ 0 ∷ 0 ∷ 0 ∷ 0 ∷ 0 ∷ 0 ∷ 0 ∷ 0 ∷ 132 ∷ 171 ∷ 229 ∷ 2 ∷ 218 ∷ 220 ∷ 92 ∷ 132 ∷ 178 ∷ 182 ∷ 22 ∷ 237 ∷ 10 ∷ 164 ∷ 93 ∷ 136 ∷ 129 ∷ 33 ∷ 49 ∷ 120 ∷ 85 ∷ 224 ∷ 116 ∷ 1 ∷ 159 ∷ 100 ∷ 167 ∷ 231 ∷ 26 ∷ 201 ∷ 93 ∷ 0 ∷ 132 ∷ 171 ∷ 229 ∷ 2 ∷ 218 ∷ 220 ∷ 92 ∷ 132 ∷ 178 ∷ 182 ∷ 22 ∷ 237 ∷ 10 ∷ 164 ∷ 93 ∷ 136 ∷ 129 ∷ 33 ∷ 49 ∷ 120 ∷ 85 ∷ 224 ∷ 116 ∷ 1 ∷ 159 ∷ 100 ∷ 167 ∷ 231 ∷ 26 ∷ 201 ∷ 93 ∷ 0 ∷ 0 ∷ 0 ∷ 0 ∷ 1 ∷ 0 ∷ 0 ∷ 219 ∷ 193 ∷ 180 ∷ 201 ∷ 0 ∷ 255 ∷ 228 ∷ 141 ∷ 87 ∷ 91 ∷ 93 ∷ 165 ∷ 198 ∷ 56 ∷ 4 ∷ 1 ∷ 37 ∷ 246 ∷ 93 ∷ 176 ∷ 254 ∷ 62 ∷ 36 ∷ 73 ∷ 75 ∷ 118 ∷ 234 ∷ 152 ∷ 100 ∷ 87 ∷ 217 ∷ 134 ∷ 3 ∷ [])) ≡ 0 ∷ 0 ∷ 4 ∷ []
+pub not-registered : lookupReply (checkLookup plain head-0 anna lookup) ≡ reply 0 (0 ∷ 0 ∷ 4 ∷ [])
 unfolding every isName inputTests proofTests pathTests proofStrings pathStrings pathNodes meets absent
-not-registered = ap lookupValues (lookup-accept plain head-0 anna lookup unregistered lookup-read (refl, tt) (eq-same head-0-is, (eq-same path-root, (refl, tt))))
+not-registered = ap lookupReply (lookup-accept plain head-0 anna lookup unregistered lookup-read (refl, tt) (eq-same head-0-is, (eq-same path-root, (refl, tt))))
 
 abbrev step : Bytes
 step = 86 ∷ 75 ∷ 68 ∷ 0 ∷ 1 ∷ 3 ∷ 0 ∷ 0 ∷ 0 ∷ 1 ∷ 90 ∷ 130 ∷ 232 ∷ 110 ∷ 236 ∷ 79 ∷ 141 ∷ 195 ∷ 212 ∷ 48 ∷ 213 ∷ 125 ∷ 72 ∷ 225 ∷ 238 ∷ 59 ∷ 20 ∷ 25 ∷ 96 ∷ 46 ∷ 48 ∷ 112 ∷ 7 ∷ 62 ∷ 2 ∷ 61 ∷ 51 ∷ 155 ∷ 104 ∷ 24 ∷ 108 ∷ 132 ∷ 132 ∷ 171 ∷ 229 ∷ 2 ∷ 218 ∷ 220 ∷ 92 ∷ 132 ∷ 178 ∷ 182 ∷ 22 ∷ 237 ∷ 10 ∷ 164 ∷ 93 ∷ 136 ∷ 129 ∷ 33 ∷ 49 ∷ 120 ∷ 85 ∷ 224 ∷ 116 ∷ 1 ∷ 159 ∷ 100 ∷ 167 ∷ 231 ∷ 26 ∷ 201 ∷ 93 ∷ 0 ∷ 132 ∷ 171 ∷ 229 ∷ 2 ∷ 218 ∷ 220 ∷ 92 ∷ 132 ∷ 178 ∷ 182 ∷ 22 ∷ 237 ∷ 10 ∷ 164 ∷ 93 ∷ 136 ∷ 129 ∷ 33 ∷ 49 ∷ 120 ∷ 85 ∷ 224 ∷ 116 ∷ 1 ∷ 159 ∷ 100 ∷ 167 ∷ 231 ∷ 26 ∷ 201 ∷ 93 ∷ 0 ∷ 0 ∷ 0 ∷ 0 ∷ 2 ∷ 84 ∷ 129 ∷ 22 ∷ 33 ∷ 161 ∷ 129 ∷ 96 ∷ 95 ∷ 126 ∷ 30 ∷ 143 ∷ 182 ∷ 42 ∷ 104 ∷ 39 ∷ 88 ∷ 126 ∷ 35 ∷ 236 ∷ 0 ∷ 252 ∷ 126 ∷ 209 ∷ 201 ∷ 52 ∷ 238 ∷ 18 ∷ 101 ∷ 53 ∷ 226 ∷ 98 ∷ 189 ∷ 132 ∷ 171 ∷ 229 ∷ 2 ∷ 218 ∷ 220 ∷ 92 ∷ 132 ∷ 178 ∷ 182 ∷ 22 ∷ 237 ∷ 10 ∷ 164 ∷ 93 ∷ 136 ∷ 129 ∷ 33 ∷ 49 ∷ 120 ∷ 85 ∷ 224 ∷ 116 ∷ 1 ∷ 159 ∷ 100 ∷ 167 ∷ 231 ∷ 26 ∷ 201 ∷ 93 ∷ 0 ∷ 132 ∷ 171 ∷ 229 ∷ 2 ∷ 218 ∷ 220 ∷ 92 ∷ 132 ∷ 178 ∷ 182 ∷ 22 ∷ 237 ∷ 10 ∷ 164 ∷ 93 ∷ 136 ∷ 129 ∷ 33 ∷ 49 ∷ 120 ∷ 85 ∷ 224 ∷ 116 ∷ 1 ∷ 159 ∷ 100 ∷ 167 ∷ 231 ∷ 26 ∷ 201 ∷ 93 ∷ 0 ∷ 0 ∷ 0 ∷ 0 ∷ 0 ∷ 0 ∷ 0 ∷ 0 ∷ 0 ∷ []
@@ -140,10 +140,10 @@ unfolding every be number same toBits bitsOf fromBits pack block fixed within se
 step-read = refl
 
 -- an audit step between two epochs with no record: four empty trees
-pub empty-step : auditValues (checkAudit (84 ∷ 129 ∷ 22 ∷ 33 ∷ 161 ∷ 129 ∷ 96 ∷ 95 ∷ 126 ∷ 30 ∷ 143 ∷ 182 ∷ 42 ∷ 104 ∷ 39 ∷ 88 ∷ 126 ∷ 35 ∷ 236 ∷ 0 ∷ 252 ∷ 126 ∷ 209 ∷ 201 ∷ 52 ∷ 238 ∷ 18 ∷ 101 ∷ 53 ∷ 226 ∷ 98 ∷ 189 ∷ []) (131 ∷ 166 ∷ 237 ∷ 122 ∷ 123 ∷ 144 ∷ 92 ∷ 76 ∷ 49 ∷ 86 ∷ 226 ∷ 139 ∷ 107 ∷ 250 ∷ 58 ∷ 188 ∷ 241 ∷ 101 ∷ 40 ∷ 47 ∷ 190 ∷ 72 ∷ 19 ∷ 127 ∷ 112 ∷ 6 ∷ 202 ∷ 245 ∷ 43 ∷ 47 ∷ 192 ∷ 58 ∷ []) (86 ∷ 75 ∷ 68 ∷ 0 ∷ 1 ∷ 3 ∷ 0 ∷ 0 ∷ 0 ∷ 1 ∷ 90 ∷ 130 ∷ 232 ∷ 110 ∷ 236 ∷ 79 ∷ 141 ∷ 195 ∷ 212 ∷ 48 ∷ 213 ∷ 125 ∷ 72 ∷ 225 ∷ 238 ∷ 59 ∷ 20 ∷ 25 ∷ 96 ∷ 46 ∷ 48 ∷ 112 ∷ 7 ∷ 62 ∷ 2 ∷ 61 ∷ 51 ∷ 155 ∷ 104 ∷ 24 ∷ 108 ∷ 132 ∷ 132 ∷ 171 ∷ 229 ∷ 2 ∷ 218 ∷ 220 ∷ 92 ∷ 132 ∷ 178 ∷ 182 ∷ 22 ∷ 237 ∷ 10 ∷ 164 ∷ 93 ∷ 136 ∷ 129 ∷ 33 ∷ 49 ∷ 120 ∷ 85 ∷ 224 ∷ 116 ∷ 1 ∷ 159 ∷ 100 ∷ 167 ∷ 231 ∷ 26 ∷ 201 ∷ 93 ∷ 0 ∷ 132 ∷ 171 ∷ 229 ∷ 2 ∷ 218 ∷ 220 ∷ 92 ∷ 132 ∷ 178 ∷ 182 ∷ 22 ∷ 237 ∷ 10 ∷ 164 ∷ 93 ∷ 136 ∷ 129 ∷ 33 ∷ 49 ∷ 120 ∷ 85 ∷ 224 ∷ 116 ∷ 1 ∷ 159 ∷ 100 ∷ 167 ∷ 231 ∷ 26 ∷ 201 ∷ 93 ∷ 0 ∷ 0 ∷ 0 ∷ 0 ∷ 2 ∷ 84 ∷ 129 ∷ 22 ∷ 33 ∷ 161 ∷ 129 ∷ 96 ∷ 95 ∷ 126 ∷ 30 ∷ 143 ∷ 182 ∷ 42 ∷ 104 ∷ 39 ∷ 88 ∷ 126 ∷ 35 ∷ 236 ∷ 0 ∷ 252 ∷ 126 ∷ 209 ∷ 201 ∷ 52 ∷ 238 ∷ 18 ∷ 101 ∷ 53 ∷ 226 ∷ 98 ∷ 189 ∷ 132 ∷ 171 ∷ 229 ∷ 2 ∷ 218 ∷ 220 ∷ 92 ∷ 132 ∷ 178 ∷ 182 ∷ 22 ∷ 237 ∷ 10 ∷ 164 ∷ 93 ∷ 136 ∷ 129 ∷ 33 ∷ 49 ∷ 120 ∷ 85 ∷ 224 ∷ 116 ∷ 1 ∷ 159 ∷ 100 ∷ 167 ∷ 231 ∷ 26 ∷ 201 ∷ 93 ∷ 0 ∷ 132 ∷ 171 ∷ 229 ∷ 2 ∷ 218 ∷ 220 ∷ 92 ∷ 132 ∷ 178 ∷ 182 ∷ 22 ∷ 237 ∷ 10 ∷ 164 ∷ 93 ∷ 136 ∷ 129 ∷ 33 ∷ 49 ∷ 120 ∷ 85 ∷ 224 ∷ 116 ∷ 1 ∷ 159 ∷ 100 ∷ 167 ∷ 231 ∷ 26 ∷ 201 ∷ 93 ∷ 0 ∷ 0 ∷ 0 ∷ 0 ∷ 0 ∷ 0 ∷ 0 ∷ 0 ∷ 0 ∷ [])) ≡ 1 ∷ 2 ∷ 14 ∷ []
+pub empty-step : auditReply (checkAudit head-1 head-2 step) ≡ reply 0 (1 ∷ 2 ∷ 14 ∷ [])
 unfolding every same olds news inOrder auditTests auditStrings keep side build root
 empty-step = let bare-same = eq-same bare-tree in
-    ap auditValues (audit-accept head-1 head-2 step audit step-read (refl, tt) (
+    ap auditReply (audit-accept head-1 head-2 step audit step-read (refl, tt) (
       eq-same head-1-is,
       (eq-same head-2-is, (refl, (refl, (bare-same, (bare-same, (refl, (bare-same, (bare-same, tt)))))))),
     ))
@@ -151,23 +151,33 @@ empty-step = let bare-same = eq-same bare-tree in
 -- ---- refusals
 
 -- a name that breaks the bounds is refused whatever the proof
-pub bad-name : lookupNumber (checkLookup plain (90 ∷ 130 ∷ 232 ∷ 110 ∷ 236 ∷ 79 ∷ 141 ∷ 195 ∷ 212 ∷ 48 ∷ 213 ∷ 125 ∷ 72 ∷ 225 ∷ 238 ∷ 59 ∷ 20 ∷ 25 ∷ 96 ∷ 46 ∷ 48 ∷ 112 ∷ 7 ∷ 62 ∷ 2 ∷ 61 ∷ 51 ∷ 155 ∷ 104 ∷ 24 ∷ 108 ∷ 132 ∷ []) [] []) ≡ 1
+pub bad-name : lookupReply (checkLookup plain head-0 [] []) ≡ reply 1 []
 unfolding every isName verdict inputTests checkLookup
 bad-name = refl
 
 -- no bytes are no proof
-pub no-proof : lookupNumber (checkLookup plain (90 ∷ 130 ∷ 232 ∷ 110 ∷ 236 ∷ 79 ∷ 141 ∷ 195 ∷ 212 ∷ 48 ∷ 213 ∷ 125 ∷ 72 ∷ 225 ∷ 238 ∷ 59 ∷ 20 ∷ 25 ∷ 96 ∷ 46 ∷ 48 ∷ 112 ∷ 7 ∷ 62 ∷ 2 ∷ 61 ∷ 51 ∷ 155 ∷ 104 ∷ 24 ∷ 108 ∷ 132 ∷ []) (97 ∷ 110 ∷ 110 ∷ 97 ∷ []) []) ≡ 2
+pub no-lookup-bytes : lookupReply (checkLookup plain head-0 anna []) ≡ reply 2 []
 unfolding every be number same toBits bitsOf fromBits pack block fixed within seq led times timesRead such view never riseFrom rise endOf isName verdict inputTests checkLookup
-no-proof = refl
+no-lookup-bytes = refl
 
--- no heads: so the history and audit checkers, which accept above, refuse something
-pub no-head : historyNumber (checkHistory plain [] [] []) ≡ 1
-unfolding every isName verdict inputTests checkHistory
-no-head = refl
+pub no-history-bytes : historyReply (checkHistory plain head-0 anna []) ≡ reply 2 []
+unfolding every be number same toBits bitsOf fromBits pack block fixed within seq led times timesRead such view never riseFrom rise endOf isName verdict inputTests checkHistory
+no-history-bytes = refl
 
-pub no-heads : auditNumber (checkAudit [] [] []) ≡ 1
-unfolding verdict checkAudit
-no-heads = refl
+pub no-step-bytes : auditReply (checkAudit head-1 head-2 []) ≡ reply 2 []
+unfolding every be number same toBits bitsOf fromBits pack block fixed within seq led times timesRead such view never riseFrom rise endOf recordOf verdict checkAudit
+no-step-bytes = refl
+
+-- ---- so no checker refuses everything, and none has one fixed reply: under the same heads and name it accepts one proof and refuses another
+
+pub lookup-not-fixed : (lookupReply (checkLookup plain head-0 anna lookup) ≡ reply 0 (0 ∷ 0 ∷ 4 ∷ [])) × (lookupReply (checkLookup plain head-0 anna []) ≡ reply 2 [])
+lookup-not-fixed = (not-registered, no-lookup-bytes)
+
+pub history-not-fixed : (historyReply (checkHistory plain head-0 anna history) ≡ reply 0 (0 ∷ 0 ∷ 1 ∷ [])) × (historyReply (checkHistory plain head-0 anna []) ≡ reply 2 [])
+history-not-fixed = (empty-history, no-history-bytes)
+
+pub audit-not-fixed : (auditReply (checkAudit head-1 head-2 step) ≡ reply 0 (1 ∷ 2 ∷ 14 ∷ [])) × (auditReply (checkAudit head-1 head-2 []) ≡ reply 2 [])
+audit-not-fixed = (empty-step, no-step-bytes)
 
 -- the checking program on empty input: "refused 1"
 pub empty-input : programLine [] ≡ 114 ∷ 101 ∷ 102 ∷ 117 ∷ 115 ∷ 101 ∷ 100 ∷ 32 ∷ 49 ∷ 10 ∷ []

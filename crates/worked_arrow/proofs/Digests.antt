@@ -1,5 +1,5 @@
--- Every digest of the directory in Promise.antt, each worked out once. The bytes are those of tests/directory.py. Assumes nothing.
-use mathlib.Core.Path.{_≡_}
+-- Every digest of the directory in Promise.antt and Publishing.antt, each worked out once. The bytes are those of tests/directory.py. Assumes nothing.
+use mathlib.Core.Path.{_≡_, ap₂, _∙_}
 use mathlib.Core.Bool.{true, false}
 use mathlib.Core.List.{[], _∷_}
 use Rattle.fips.specs.Sha256 as F
@@ -7,6 +7,7 @@ use Rattle.fips.proofs.Fast.{fast-is}
 use Rattle.paper.specs.Bytes.{Bytes, be, zeros}
 use Rattle.paper.specs.Bits.{Bits, toBits, bitsOf, fromBits, pack}
 use Rattle.paper.specs.Strings.{leaf, inner, nothing, nodeString, leafString, innerString, nothingString, Head, headBytes, headString, labelString, commitmentString}
+use Rattle.paper.specs.Tree.{digest}
 
 abbrev pub name : Bytes
 name = 105 ∷ 100 ∷ 97 ∷ []
@@ -141,6 +142,14 @@ pub all-2-is : F.sha256 (nodeString (inner [] pair-1 pair-2)) ≡ all-2
 unfolding F.be64 F.zeros F.pad F.parse F.digest be toBits bitsOf fromBits pack leafString innerString nothingString headBytes headString labelString commitmentString
 all-2-is = fast-is (nodeString (inner [] pair-1 pair-2))
 
+-- a root over nothing that stands there
+abbrev pub wrong : Bytes
+wrong = 122 ∷ 115 ∷ 102 ∷ 59 ∷ 198 ∷ 190 ∷ 221 ∷ 30 ∷ 22 ∷ 107 ∷ 128 ∷ 222 ∷ 188 ∷ 77 ∷ 92 ∷ 159 ∷ 30 ∷ 36 ∷ 3 ∷ 167 ∷ 94 ∷ 173 ∷ 89 ∷ 215 ∷ 211 ∷ 186 ∷ 54 ∷ 133 ∷ 136 ∷ 255 ∷ 248 ∷ 107 ∷ []
+
+pub wrong-is : F.sha256 (nodeString (inner [] (zeros 32) pair-2)) ≡ wrong
+unfolding F.be64 F.zeros F.pad F.parse F.digest be toBits bitsOf fromBits pack leafString innerString nothingString headBytes headString labelString commitmentString
+wrong-is = fast-is (nodeString (inner [] (zeros 32) pair-2))
+
 -- *old*: version 1, from epoch 2 on, and the roots
 abbrev pub gone-1 : Bytes
 gone-1 = 80 ∷ 34 ∷ 203 ∷ 120 ∷ 196 ∷ 109 ∷ 83 ∷ 70 ∷ 95 ∷ 13 ∷ 218 ∷ 181 ∷ 36 ∷ 90 ∷ 48 ∷ 183 ∷ 248 ∷ 196 ∷ 122 ∷ 93 ∷ 34 ∷ 83 ∷ 216 ∷ 129 ∷ 47 ∷ 73 ∷ 92 ∷ 28 ∷ 57 ∷ 155 ∷ 192 ∷ 113 ∷ []
@@ -183,3 +192,7 @@ after = 53 ∷ 239 ∷ 66 ∷ 28 ∷ 124 ∷ 105 ∷ 138 ∷ 43 ∷ 28 ∷ 12 �
 pub after-is : F.sha256 (headString head-2) ≡ after
 unfolding F.be64 F.zeros F.pad F.parse F.digest be toBits bitsOf fromBits pack leafString innerString nothingString headBytes headString labelString commitmentString
 after-is = fast-is (headString head-2)
+
+-- the digest of an inner node, from those below it
+pub over : (p : Bits) {l r x y d : Bytes} → l ≡ x → r ≡ y → digest (inner p x y) ≡ d → digest (inner p l r) ≡ d
+over p e f q = ap₂ (λ l r. digest (inner p l r)) e f ∙ q
