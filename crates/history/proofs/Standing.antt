@@ -18,7 +18,7 @@ use Rattle.fields.specs.After.{afterOf}
 use Rattle.fields.specs.declared.After.the-variants.{At}
 use Rattle.fields.proofs.Behind.{First, first-of}
 use Rattle.shown.proofs.Keyed.{item-told, item-after}
-use Rattle.rows.specs.Rows.{onward, itemOn}
+use Rattle.runs.specs.Runs.{onward, itemOn}
 
 -- ---- what is read at a place tells the place behind it
 

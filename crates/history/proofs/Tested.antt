@@ -43,10 +43,10 @@ use Rattle.shown.proofs.Keyed.{item-told}
 use Rattle.shown.proofs.Fronts.{front-told}
 use Rattle.shown.proofs.Formed.{Formed}
 use Rattle.walks.proofs.Walked.{path-moves, Suits, over, walks-tests}
-use Rattle.rows.specs.Rows.{itemOn, itemAt, placeAt, epochFrom, askVersion, askReplaced, askCurrent, askMarker, lack, row, lacks, ItemsStand}
-use Rattle.rows.specs.Order.{rowsAsk}
-use Rattle.rows.proofs.Cursors.{path-epoch}
-use Rattle.rows.proofs.Powers.{marked}
+use Rattle.runs.specs.Runs.{itemOn, itemAt, placeAt, epochFrom, askVersion, askReplaced, askCurrent, askMarker, lack, row, lacks, ItemsStand}
+use Rattle.rows.specs.Rows.{rowsAsk}
+use Rattle.runs.proofs.Cursors.{path-epoch}
+use Rattle.runs.proofs.Powers.{marked}
 use Rattle.history.specs.Walk.{rowsOf, walkOf, answerOf}
 use Rattle.history.proofs.Standing.{item-moves, nth}
 

@@ -3,7 +3,7 @@ use Prim.Native.Nat.{ℕ, _+_}
 use Rattle.paper.specs.Bytes.{Bytes}
 use Rattle.paper.specs.declared.HistoryAnswer.{HistoryAnswer}
 use Rattle.paper.specs.declared.HistoryAnswer.the-variants as H
-use Rattle.rows.specs.Order.{rowsAsk}
+use Rattle.rows.specs.Rows.{rowsAsk}
 use Rattle.rows.specs.declared.Check.the-variants.{History}
 use Rattle.rows.specs.declared.Rows.{Rows}
 use Rattle.walks.specs.Walk.{walks}

@@ -18,7 +18,7 @@ use walks::Walk;
 ghost use mathlib.Core.Path.{_≡_};
 ghost use Rattle.paper.specs.Labelling.{plain};
 ghost use Rattle.paper.specs.History.{checkHistory};
-ghost use Rattle.rows.specs.Order.{Laid};
+ghost use Rattle.rows.specs.Rows.{Laid};
 ghost use Rattle.history.specs.Walk.{rowsOf, walkOf, answerOf};
 
 // What all paths come to, row by row, of which the first stands at `first`. The head and each key are counted before them.

@@ -31,9 +31,9 @@ use Rattle.shown.proofs.Keyed.{item-told}
 use Rattle.shown.proofs.Fronts.{front-told}
 use Rattle.shown.proofs.Formed.{Formed}
 use Rattle.walks.proofs.Walked.{Suits, over, walks-tests}
-use Rattle.rows.specs.Rows.{onward, epochFrom, lack, ItemsStand}
-use Rattle.rows.specs.Order.{rowsAsk}
-use Rattle.rows.proofs.Cursors.{path-epoch}
+use Rattle.runs.specs.Runs.{onward, epochFrom, lack, ItemsStand}
+use Rattle.rows.specs.Rows.{rowsAsk}
+use Rattle.runs.proofs.Cursors.{path-epoch}
 use Rattle.lookup.specs.Walk.{rowsOf, walkOf, answerOf}
 
 -- an answer is made of a walk

@@ -4,7 +4,7 @@ use Rattle.paper.specs.Bytes.{Bytes}
 use Rattle.paper.specs.Lookup.{lookupKeys}
 use Rattle.paper.specs.declared.LookupAnswer.{LookupAnswer}
 use Rattle.paper.specs.declared.LookupAnswer.the-variants as L
-use Rattle.rows.specs.Order.{rowsAsk}
+use Rattle.rows.specs.Rows.{rowsAsk}
 use Rattle.rows.specs.declared.Check.the-variants.{Lookup}
 use Rattle.rows.specs.declared.Rows.{Rows}
 use Rattle.walks.specs.Walk.{walks}

@@ -6,7 +6,7 @@ use walks::Walk;
 ghost use mathlib.Core.Path.{_≡_};
 ghost use Prim.Native.Nat.{_+_};
 ghost use Rattle.paper.specs.Lookup.{lookupKeys};
-ghost use Rattle.rows.specs.Order.{Laid};
+ghost use Rattle.rows.specs.Rows.{Laid};
 ghost use Rattle.lookup.specs.Walk.{rowsOf, walkOf};
 
 // "1 for the head, 1 for each key": those that are counted before the paths. Version 0 has no key.

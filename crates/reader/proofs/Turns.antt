@@ -3,8 +3,8 @@ use mathlib.Core.Path.{_≡_, refl, sym, ap, ap₂, _∙_, subst}
 use Prim.Native.Nat.{ℕ, suc, _≤_}
 use denote.Ref.{RefT, now}
 use Rattle.paper.specs.Bytes.{Bytes}
-use Rattle.rows.specs.Rows.{used}
-use Rattle.rows.specs.Order.{rowAsks, rowsAsk, rowAfter, Laid, RowReady}
+use Rattle.runs.specs.Runs.{used}
+use Rattle.rows.specs.Rows.{rowAsks, rowsAsk, rowAfter, Laid, RowReady}
 use Rattle.rows.specs.declared.Rows.{Rows}
 use Rattle.rows.proofs.Joined.{placeBefore, walkBefore, ready, joined}
 use Rattle.walks.specs.Walk.{walks}

@@ -9,8 +9,8 @@ use rows::Rows;
 use walks::Walk;
 ghost use mathlib.Core.Path.{_≡_};
 ghost use Prim.Native.Nat.{_≤_};
-ghost use Rattle.rows.specs.Rows.{used};
-ghost use Rattle.rows.specs.Order.{rowsAsk, Laid};
+ghost use Rattle.runs.specs.Runs.{used};
+ghost use Rattle.rows.specs.Rows.{rowsAsk, Laid};
 ghost use Rattle.walks.specs.Walk.{walks};
 
 // "lookup and history take paths in order, 4 before 5 for each": all rows of a proof, from its first path on.

@@ -5,7 +5,7 @@ use rows::row_after;
 use rows::row_at;
 use walks::Walk;
 ghost use mathlib.Core.Path.{_≡_};
-ghost use Rattle.rows.specs.Order.{rowAsks, rowAfter, RowReady};
+ghost use Rattle.rows.specs.Rows.{rowAsks, rowAfter, RowReady};
 ghost use Rattle.walks.specs.Walk.{walks};
 
 pub struct Reader<'a> {

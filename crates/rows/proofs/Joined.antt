@@ -8,10 +8,10 @@ use Rattle.paper.specs.Bytes.{Bytes}
 use Rattle.shown.specs.declared.Asked.{Asked}
 use Rattle.walks.specs.Walk.{pathOn, walked, walks}
 use Rattle.walks.specs.declared.Walk.{Walk}
-use Rattle.rows.specs.Rows.{onward, used}
-use Rattle.rows.specs.Order.{rowAsks, rowsAsk, rowAfter, Laid, RowReady}
+use Rattle.runs.specs.Runs.{onward, used}
+use Rattle.rows.specs.Rows.{rowAsks, rowsAsk, rowAfter, Laid, RowReady}
 use Rattle.rows.specs.declared.Rows.{Rows}
-use Rattle.rows.proofs.Going.{used-walks}
+use Rattle.runs.proofs.Going.{used-walks}
 use Rattle.rows.proofs.Order.{row-few}
 
 -- one on, and then k on

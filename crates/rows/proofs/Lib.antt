@@ -1,6 +1,3 @@
--- Laws of the rows of a the rows.
-pub mod Going
-pub mod Cursors
-pub mod Powers
+-- Laws of the rows.
 pub mod Order
 pub mod Joined

@@ -15,13 +15,13 @@ use Rattle.plan.proofs.Markers.{markers-most}
 use Rattle.shown.specs.Form.{ItemStands, commitmentIn}
 use Rattle.shown.specs.declared.Asked.{Asked}
 use Rattle.walks.specs.declared.Walk.{Walk}
-use Rattle.rows.specs.Rows.{onward, epochFrom, askVersion, askReplaced, askMarker, lack, placeBy, ItemsStand}
-use Rattle.rows.specs.Order.{ofVersion, ofMarker, lookupRow, historyRow, rowOf, keysIn, RowReady, LookupReady, HistoryReady}
+use Rattle.runs.specs.Runs.{onward, epochFrom, askVersion, askReplaced, askMarker, lack, placeBy, ItemsStand}
+use Rattle.rows.specs.Rows.{ofVersion, ofMarker, lookupRow, historyRow, rowOf, keysIn, RowReady, LookupReady, HistoryReady}
 use Rattle.rows.specs.declared.Check.{Check}
 use Rattle.rows.specs.declared.Check.the-variants.{Lookup, History}
 use Rattle.rows.specs.declared.Rows.{Rows}
-use Rattle.rows.proofs.Going.{row-length}
-use Rattle.rows.proofs.Powers.{power}
+use Rattle.runs.proofs.Going.{row-length}
+use Rattle.runs.proofs.Powers.{power}
 
 -- ---- a lookup's rows
 

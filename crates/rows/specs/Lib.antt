@@ -1,3 +1,2 @@
 -- What the contracts of the rows say.
 pub mod Rows
-pub mod Order

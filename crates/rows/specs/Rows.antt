@@ -1,111 +1,100 @@
--- What the paths of each row are asked to show, with epochs and commitments as they stand in the proof's own bytes.
-use mathlib.Core.Bool.{Bool, true, false}
-use mathlib.Core.List.{List, [], _∷_, map}
-use Prim.Native.Nat.{ℕ, zero, suc, _+_, _-_, _*_, _^_, _≤_, _<_}
-use lib.ListN.{length, getD}
-use Rattle.paper.specs.Lists.{upFrom}
-use Rattle.paper.specs.Numbers.{nameMost}
-use Rattle.paper.specs.Bytes.{Bytes, zeros}
-use Rattle.path_form.specs.Parsed.{pathAt}
-use Rattle.path_form.specs.declared.End.{End}
-use Rattle.path_form.specs.declared.End.the-variants.{This, Other, Off, Nothing}
-use Rattle.plan.specs.declared.Place.{Place}
+-- The rows of a proof's paths in their order: three of a lookup, of one path each, and six of a history.
+use mathlib.Core.Path.{_≡_}
+use mathlib.Core.Bool.{true, false}
+use mathlib.Core.List.{List, [], _∷_, _++_}
+use Prim.Native.Nat.{ℕ, zero, suc, _+_, _-_, _*_, _^_, _≤_}
+use lib.ListN.{length}
+use Rattle.paper.specs.Numbers.{wide, nameMost, versionMost}
+use Rattle.paper.specs.Bytes.{Bytes, Bytewise, zeros}
+use Rattle.paper.specs.Bits.{log2}
+use Rattle.paper.specs.Lookup.{lookupKeys}
+use Rattle.paper.specs.History.{markersBy}
+use Rattle.plan.specs.Asked.{markersOf}
 use Rattle.plan.specs.declared.Place.the-variants.{InAll, InOld, AsMarker}
 use Rattle.shown.specs.Form.{ItemStands, commitmentIn}
 use Rattle.shown.specs.declared.Asked.{Asked}
 use Rattle.walks.specs.Walk.{pathOn}
 use Rattle.walks.specs.declared.Walk.{Walk}
-use Rattle.walks.specs.declared.Walk.the-variants.{On, Refused}
-use Rattle.rows.specs.declared.Leaf.{Leaf}
+use Rattle.runs.specs.Runs.{onward, epochFrom, askVersion, askReplaced, askCurrent, askMarker, lack, row, lacks, used, Ahead, ItemsStand}
+use Rattle.rows.specs.declared.Check.{Check}
+use Rattle.rows.specs.declared.Check.the-variants.{Lookup, History}
+use Rattle.rows.specs.declared.Rows.{Rows}
 
--- the epoch of "this leaf"; the other ends have none
-abbrev pub endEpoch : End → ℕ
-endEpoch (This at e) = e
-endEpoch (Other at e) = 0
-endEpoch (Off at) = 0
-endEpoch Nothing = 0
+-- "The version's leaf has the key's commitment, and its epoch e has v ≤ e ≤ t"
+abbrev pub ofVersion : Bytes → ℕ → ℕ → Asked
+ofVersion commitment v t = record { place = InAll v; there = true; commitment = commitment; low = v; high = t }
 
--- k times on from a place
-unfoldable pub onward : (ℕ → ℕ) → ℕ → ℕ → ℕ
-onward on at zero = at
-onward on at (suc k) = on (onward on at k)
+-- "the marker's epoch is from 2^floor(log2 v) to e"
+abbrev pub ofMarker : ℕ → ℕ → Asked
+ofMarker v e = record { place = AsMarker (log2 v); there = true; commitment = zeros wide; low = 2 ^ log2 v; high = e }
 
-module _ (s : Bytes) where
-  -- the place behind the key at a place: its length, the key and its opening take 33 bytes and the length
-  abbrev pub itemOn : ℕ → ℕ
-  itemOn at = at + (33 + getD s at 0)
+module _ (s : Bytes) (first t : ℕ) where
+  -- "If 0: one path, version 1 absent from *all*. Otherwise .. paths: version v present in *all*, v absent from *old*, marker
+  -- floor(log2 v) present in *all*."
+  abbrev pub lookupRow : ℕ → ℕ → List Asked
+  lookupRow zero zero = lack (InAll 1) ∷ []
+  lookupRow zero (suc i) = []
+  lookupRow (suc v) zero = ofVersion (commitmentIn s 108) (suc v) t ∷ []
+  lookupRow (suc v) (suc zero) = lack (InOld (suc v)) ∷ []
+  lookupRow (suc v) (suc (suc zero)) = ofMarker (suc v) (epochFrom s first 1) ∷ []
+  lookupRow (suc v) (suc (suc (suc i))) = []
 
-  -- the place of the k-th key, from 0
-  abbrev pub itemAt : ℕ → ℕ
-  itemAt k = onward itemOn 108 k
+  -- "Versions 1 to n present in *all*. Versions 1 to n-1 present in *old*. If n > 0, n absent from *old*. With a = floor(log2 n): n+1 to
+  -- 2^(a+1)-1 absent from *all*; markers 0 to a present; markers a+1 to min(9, floor(log2 T)) absent."
+  abbrev pub historyRow : ℕ → ℕ → List Asked
+  historyRow n zero = row (askVersion s first t) 1 (suc n)
+  historyRow n (suc zero) = row (askReplaced s first) 1 n
+  historyRow n (suc (suc zero)) = askCurrent n
+  historyRow n (suc (suc (suc zero))) = lacks false (suc n) (2 ^ markersOf n)
+  historyRow n (suc (suc (suc (suc zero)))) = row (askMarker s first) 0 (markersOf n)
+  historyRow n (suc (suc (suc (suc (suc zero))))) = lacks true (markersOf n) (markersBy t)
+  historyRow n (suc (suc (suc (suc (suc (suc i)))))) = []
 
-  -- the path at a place: its leaf's epoch, and the place behind it
-  abbrev pub leafAt : ℕ → Leaf
-  leafAt at = record { epoch = endEpoch (pathAt s at .«end»); next = pathAt s at .next }
+  abbrev pub rowOf : Check → ℕ → ℕ → List Asked
+  rowOf Lookup n i = lookupRow n i
+  rowOf History n i = historyRow n i
 
-  module _ (first : ℕ) where
-    -- the place of the k-th path, from 0
-    abbrev pub placeAt : ℕ → ℕ
-    placeAt k = onward (pathOn s) first k
+-- what the i-th row is asked, from 0, and all of them
+abbrev pub rowAsks : Bytes → Rows → ℕ → List Asked
+rowAsks s rows i = rowOf s (rows .first) (rows .epoch) (rows .check) (rows .number) i
 
-    -- the epoch of the i-th path's leaf, from 1
-    unfoldable pub epochFrom : ℕ → ℕ
-    epochFrom zero = 0
-    epochFrom (suc k) = endEpoch (pathAt s (placeAt k) .«end»)
+abbrev pub rowsAsk : Bytes → Rows → List Asked
+rowsAsk s rows = rowAsks s rows 0 ++ (rowAsks s rows 1 ++ (rowAsks s rows 2 ++ (rowAsks s rows 3 ++ (rowAsks s rows 4 ++ rowAsks s rows 5))))
 
-    -- "Each version's leaf has its key's commitment. Epochs have 1 ≤ e1 < e2 < .. ≤ T"
-    abbrev pub askVersion : ℕ → ℕ → Asked
-    askVersion T i = record { place = InAll i; there = true; commitment = commitmentIn s (itemAt (i - 1)); low = epochFrom (i - 1) + 1; high = T }
+-- the place behind the i-th row, which stands at a place
+abbrev pub rowAfter : Bytes → Rows → ℕ → ℕ → ℕ
+rowAfter s rows i at = onward (pathOn s) at (length (rowAsks s rows i))
 
-    -- a leaf with no commitment, at the epoch of version i
-    abbrev pub askBare : Place → ℕ → Asked
-    askBare x i = record { place = x; there = true; commitment = zeros 32; low = epochFrom i; high = epochFrom i }
+-- ---- what is asked of the caller
 
-    -- "*old* version i has epoch e(i+1)"
-    abbrev pub askReplaced : ℕ → Asked
-    askReplaced i = askBare (InOld i) (i + 1)
+-- as many keys as stand behind the front
+abbrev pub keysIn : Check → ℕ → ℕ
+keysIn Lookup v = lookupKeys v
+keysIn History n = n
 
-    -- "marker j has the epoch of version 2^j"
-    abbrev pub askMarker : ℕ → Asked
-    askMarker j = askBare (AsMarker j) (2 ^ j)
-
--- a place that is to be absent
-abbrev pub lack : Place → Asked
-lack x = record { place = x; there = false; commitment = zeros 32; low = 0; high = 0 }
-
--- "If n > 0, n absent from *old*."
-abbrev pub askCurrent : ℕ → List Asked
-askCurrent zero = []
-askCurrent (suc m) = lack (InOld (suc m)) ∷ []
-
--- what f asks of the numbers from a up to b
-abbrev pub row : (ℕ → Asked) → ℕ → ℕ → List Asked
-row f a b = map f (upFrom a (b - a))
-
--- a version's place in *all*, or a marker's; and those from a up to b lacking
-abbrev pub placeBy : Bool → ℕ → Place
-placeBy true j = AsMarker j
-placeBy false i = InAll i
-
-abbrev pub lacks : Bool → ℕ → ℕ → List Asked
-lacks marker a b = row (λ i. lack (placeBy marker i)) a b
-
--- the digests that a walk has counted
-abbrev pub used : Walk → ℕ
-used (On digests) = digests
-used (Refused n) = 0
-
--- a walk can go on: there is a front, the name is short, and the count has room for k paths more
-pub record Ahead (s name : Bytes) (k : ℕ) (w : Walk) : Type 0 where
+-- the bytes of a proof in layout, and a name that is short
+pub record Laid (s name : Bytes) (rows : Rows) : Type 0 where
+  pub bytes : Bytewise s
   pub front : 106 ≤ length s
   pub short : length name ≤ nameMost
-  pub room : used w + 258 * k < 2 ^ 32
+  pub small : rows .number ≤ versionMost
+  pub items : ItemsStand s (keysIn (rows .check) (rows .number))
 
--- n keys stand whole
-abbrev pub ItemsStand : Bytes → ℕ → Type 0
-ItemsStand s n = (k : ℕ) → k < n → ItemStands s (itemAt s k)
+-- before the i-th of six rows, each of up to 1,024 paths, the count has room for those that are left; the first row stands at the first path
+pub record RowReady (s name : Bytes) (rows : Rows) (i at : ℕ) (w : Walk) : Type 0 where
+  pub laid : Laid s name rows
+  pub room : used w + 264192 * (6 - i) ≤ 2000000
+  pub start : i ≡ 0 → at ≡ rows .first
 
-pub record VersionsAhead (s name : Bytes) (n : ℕ) (w : Walk) : Type 0 where
-  pub ahead : Ahead s name n w
-  pub small : n ≤ 1023
+-- the same of either check's rows
+pub record LookupReady (s name : Bytes) (v : ℕ) (w : Walk) : Type 0 where
+  pub ahead : Ahead s name 1 w
+  pub item : 1 ≤ v → ItemStands s 108
+
+pub record HistoryReady (s name : Bytes) (n first i at : ℕ) (w : Walk) : Type 0 where
+  pub front : 106 ≤ length s
+  pub short : length name ≤ nameMost
+  pub small : n ≤ versionMost
   pub items : ItemsStand s n
+  pub room : used w + 264192 * (6 - i) ≤ 2000000
+  pub start : i ≡ 0 → at ≡ first

@@ -2,20 +2,20 @@
 // floor(log2 n): n+1 to 2^(a+1)-1 absent from *all*; markers 0 to a present; markers a+1 to min(9, floor(log2 T)) absent." Without
 // versions the first five are empty, and the markers that there can be are absent.
 use crate::Rows;
-use crate::runs::absent;
-use crate::runs::current;
-use crate::runs::markers;
-use crate::runs::replaced;
-use crate::runs::versions;
 use plan::markers_by;
 use plan::markers_of;
+use runs::absent;
+use runs::current;
+use runs::markers;
+use runs::replaced;
+use runs::versions;
 use walks::Walk;
 ghost use mathlib.Core.Path.{_≡_};
 ghost use Prim.Native.Nat.{ℕ, _-_};
 ghost use lib.ListN.{length};
 ghost use Rattle.paper.specs.Bytes.{Bytes};
 ghost use Rattle.walks.specs.Walk.{walks};
-ghost use Rattle.rows.specs.Order.{historyRow, HistoryReady};
+ghost use Rattle.rows.specs.Rows.{historyRow, HistoryReady};
 
 // The i-th row, from 0, which stands at `at`.
 pub(crate) fn history_row(

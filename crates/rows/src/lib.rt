@@ -1,22 +1,19 @@
-// The rows of a proof's paths. A row is a run of paths of one kind: a lookup has up to three, of one path each, and a history six. The
-// proof is lent and read in place: what an earlier path says is read from it again, so that a history of 1,023 versions takes no more
-// memory than a lookup.
+// The rows of a proof's paths in their order. A row is a run of paths of one kind: a lookup has up to three, of one path each, and a
+// history six.
 mod history;
-mod leaves;
 mod lookup;
-mod runs;
 
 use history::history_paths_in;
 use history::history_row;
-use leaves::past;
 use lookup::lookup_paths_in;
 use lookup::lookup_row;
+use runs::past;
 use walks::Walk;
 ghost use mathlib.Core.Path.{_≡_};
 ghost use lib.ListN.{length};
 ghost use Rattle.paper.specs.Bytes.{Bytes};
 ghost use Rattle.walks.specs.Walk.{walks};
-ghost use Rattle.rows.specs.Order.{rowAsks, rowAfter, RowReady};
+ghost use Rattle.rows.specs.Rows.{rowAsks, rowAfter, RowReady};
 
 // Whose rows they are.
 pub enum Check {
@@ -30,12 +27,6 @@ pub struct Rows {
     pub number: u16,
     pub epoch: u32,
     pub first: usize,
-}
-
-// The epoch of a path's leaf, and the place behind the path.
-pub struct Leaf {
-    pub epoch: u32,
-    pub next: usize,
 }
 
 // The paths of the i-th row, from 0, which stands at `at`, each taken for what is asked of it. Past the last row there is none.

@@ -1,10 +1,10 @@
 // The rows of a lookup, each of one path. "If 0: one path, version 1 absent from *all*. Otherwise .. paths: version v present in *all*,
 // v absent from *old*, marker floor(log2 v) present in *all*."
 use crate::Rows;
-use crate::leaves::leaf_at;
 use bits::marker_of;
 use plan::Place;
 use plan::lookup_paths;
+use runs::leaf_at;
 use shown::Asked;
 use shown::commitment_at;
 use shown::missing;
@@ -19,7 +19,7 @@ ghost use Rattle.paper.specs.Bytes.{Bytes};
 ghost use Rattle.paper.specs.Lookup.{lookupAsked};
 ghost use Rattle.shown.specs.Form.{ItemStands};
 ghost use Rattle.walks.specs.Walk.{walks};
-ghost use Rattle.rows.specs.Order.{lookupRow, LookupReady};
+ghost use Rattle.rows.specs.Rows.{lookupRow, LookupReady};
 
 // "The version's leaf has the key's commitment, and its epoch e has v ≤ e ≤ t; the marker's epoch is from 2^floor(log2 v) to e."
 fn asked_of(s: &[u8], version: u16, epoch: u32, first: usize, i: usize) -> Asked

@@ -1,7 +1,7 @@
 -- `reader::walk_rows`: a walk of its MIR, by hand. One reader is opened, and for each row it is handed to `take_row`, and then to `past_row`, which hands back the one behind the row; of all three
 -- only the contracts are known. A reader and a slice are Copy: what they own is had twice before each call. In a local of a body MIR erases the lifetime of the struct's type, so what is held
 -- there is shown to have the type at `erased`.
-use mathlib.Core.Path.{_≡_, refl, _∙_}
+use mathlib.Core.Path.{_≡_, refl}
 use Prim.Native.Nat.{ℕ, _^_, _<_, _≤_}
 use native.Mathlib.Omega.{arith}
 use mathlib.Core.List.{List, [], _∷_}
@@ -41,8 +41,8 @@ use denote.Triple.Table.{entered, cited}
 use denote.Triple.Walked.{says, needs, Stays, stay-dropped, walkOf, goes-dropped, Walks, ends-at, walked, walk-meets}
 use denote.Exit.{yes}
 use denote.Triple.Clauses.{ensured, lasts}
-use Rattle.rows.specs.Rows.{used}
-use Rattle.rows.specs.Order.{rowsAsk, Laid, RowReady}
+use Rattle.runs.specs.Runs.{used}
+use Rattle.rows.specs.Rows.{rowsAsk, Laid, RowReady}
 use Rattle.rows.specs.declared.Rows.{Rows}
 use Rattle.walks.specs.Walk.{walks}
 use Rattle.walks.specs.declared.Walk.{Walk}
@@ -104,12 +104,9 @@ module _ {M : Type 1} (𝓤 : URA M) (H : Heap 𝓤) (A : Atoms 𝓤) (W : Given
   abbrev Post : Val → SProp 𝓤
   Post = walkOf 𝓤 H A rows-walk.ended stayed (rows-walk.clauses 𝓤 H A mem run) .post ((κs, (q, (q′, tt)), tt, (s, (name, (rows, (w₀, tt)))), at), tt)
 
-  -- the struct's type at the proof's lifetime, and as a local of a body has it
+  -- the struct's type at the proof's lifetime
   abbrev B : RattleType
   B = T.the-row (namedLft 1 0 tt (κ, tt))
-
-  abbrev αᵉ : NamedLft
-  αᵉ = record { mir = erased; lft = κ }
 
   -- what a reader owns, and the name; the proof's token alone, and both
   abbrev Rd : Reader → Val → Fml
@@ -138,14 +135,11 @@ module _ {M : Type 1} (𝓤 : URA M) (H : Heap 𝓤) (A : Atoms 𝓤) (W : Given
       nothing ! $ owned ! usize (Is usize) (uint-makes 𝓤 H A W w64) (rows .first) _ (LL.owed R.the-type R′.the-laws rows _ p .1 .1 .1 .0) $ move ! (2 ∷ 0 ∷ 1 ∷ []) $ fjoin3 ! $
       move ! (4 ∷ 3 ∷ []) $ join ! $ join ! $ nothing ! $ move ! (1 ∷ 0 ∷ []) $ join ! $ frame ! $ move ! (1 ∷ 0 ∷ []) $ done !
 
-  open-said : (r : Reader) → ent 𝓤 (ensured 𝓤 H A opened.ended (opened.clauses 𝓤 H A mem run) (κ, tt) (s, (rows .first, tt)) tt r) (fact 𝓤 (Opened s name rows w₀ r))
-  open-said r = exE 𝓤 _ (λ ws. snd∗ 𝓤 (sem 𝓤 H A (lasts opened.ended (κ, tt) (s, (rows .first, tt)) ws)) (fact 𝓤 (Opened s name rows w₀ r)))
-
   open-returned : {Γ : List (Item 𝓤)} {G : Goal 𝓤 H} → Soaks G → (x : Val) → ((r : Reader) → Opened s name rows w₀ r → Is B r (x ∷ []) → Seq (Go {0}) W (‵ (Rd r x) ∷ token ∷ Γ) G)
       → Seq (Go {0}) W (raw (Open 𝓤 H A mem run .post to-open x) ∷ Γ) G
   open-returned z x k =
       use1 W (later (some (λ (r : Reader). (token ⊛ ‵ (Rd r x)) ⊛ raw (ensured 𝓤 H A opened.ended (opened.clauses 𝓤 H A mem run) (κ, tt) (s, (rows .first, tt)) tt r)))) (id⊢ 𝓤 _) $ await ! z $ pick ! (λ r.
-      split ! $ move ! (1 ∷ []) $ use1 W (raw (fact 𝓤 (Opened s name rows w₀ r))) (open-said r) $ heard ! (Opened s name rows w₀ r) (λ e. split ! $ move ! (1 ∷ []) $ peeks ! B (Is B) (shows 𝓤 H A B) r (x ∷ []) (λ is. k r e is)))
+      split ! $ move ! (1 ∷ []) $ use1 W (raw (fact 𝓤 (Opened s name rows w₀ r))) (exE 𝓤 _ (λ ws. snd∗ 𝓤 (sem 𝓤 H A (lasts opened.ended (κ, tt) (s, (rows .first, tt)) ws)) (fact 𝓤 (Opened s name rows w₀ r)))) $ heard ! (Opened s name rows w₀ r) (λ e. split ! $ move ! (1 ∷ []) $ peeks ! B (Is B) (shows 𝓤 H A B) r (x ∷ []) (λ is. k r e is)))
 
   -- ---- the calls for the i-th row, of a reader r with the machine value u
 
@@ -173,14 +167,11 @@ module _ {M : Type 1} (𝓤 : URA M) (H : Heap 𝓤) (A : Atoms 𝓤) (W : Given
           -- [what the callee's parameters own; what the name owns; its token; what the reader owns; the proof's token]
           move ! (4 ∷ []) $ split ! $ move ! (4 ∷ 1 ∷ []) $ join ! $ move ! (1 ∷ 0 ∷ []) $ join ! $ use2 W (raw (Take 𝓤 H A mem run .pre to-take)) (asked-take ready) $ frame ! $ move ! (1 ∷ 0 ∷ []) $ done !
 
-      take-said : (w′ : Walk) → ent 𝓤 (ensured 𝓤 H A take.ended (take.clauses 𝓤 H A mem run) κs (r, (name, (rows, (i, (w, tt))))) tt w′) (fact 𝓤 (Took s name rows w₀ i r w w′))
-      take-said w′ = exE 𝓤 _ (λ ws. snd∗ 𝓤 (sem 𝓤 H A (lasts take.ended κs (r, (name, (rows, (i, (w, tt))))) ws)) (fact 𝓤 (Took s name rows w₀ i r w w′)))
-
       take-returned : {Γ : List (Item 𝓤)} {G : Goal 𝓤 H} → Soaks G → (x : Val) → ((w′ : Walk) → Took s name rows w₀ i r w w′ → Is K.the-row w′ (x ∷ []) → Seq (Go {0}) W (‵ (K.the-row .own w′ (x ∷ [])) ∷ tokens ∷ Γ) G)
           → Seq (Go {0}) W (raw (Take 𝓤 H A mem run .post to-take x) ∷ Γ) G
       take-returned z x k =
           use1 W (later (some (λ (w′ : Walk). (tokens ⊛ ‵ (K.the-row .own w′ (x ∷ []))) ⊛ raw (ensured 𝓤 H A take.ended (take.clauses 𝓤 H A mem run) κs (r, (name, (rows, (i, (w, tt))))) tt w′)))) (id⊢ 𝓤 _) $ await ! z $ pick ! (λ w′.
-          split ! $ move ! (1 ∷ []) $ use1 W (raw (fact 𝓤 (Took s name rows w₀ i r w w′))) (take-said w′) $ heard ! (Took s name rows w₀ i r w w′) (λ e. split ! $ move ! (1 ∷ []) $
+          split ! $ move ! (1 ∷ []) $ use1 W (raw (fact 𝓤 (Took s name rows w₀ i r w w′))) (exE 𝓤 _ (λ ws. snd∗ 𝓤 (sem 𝓤 H A (lasts take.ended κs (r, (name, (rows, (i, (w, tt))))) ws)) (fact 𝓤 (Took s name rows w₀ i r w w′)))) $ heard ! (Took s name rows w₀ i r w w′) (λ e. split ! $ move ! (1 ∷ []) $
           peeks ! K.the-row (Is K.the-row) (shows 𝓤 H A K.the-row) w′ (x ∷ []) (λ is. k w′ e is)))
 
     -- `past_row`
@@ -195,14 +186,11 @@ module _ {M : Type 1} (𝓤 : URA M) (H : Heap 𝓤) (A : Atoms 𝓤) (W : Given
         nothing ! $ owned ! usize (Is usize) (uint-makes 𝓤 H A W w64) i _ (refl, small) $ fjoin ! $ owned ! R.the-row (Is R.the-row) (LL.makes R.the-type R′.the-plain 𝓤 H A) rows _ p $ fjoin ! $ move ! (1 ∷ 0 ∷ []) $ fjoin ! $
         move ! (4 ∷ 3 ∷ []) $ join ! $ join ! $ nothing ! $ move ! (1 ∷ 0 ∷ []) $ join ! $ frame ! $ move ! (1 ∷ 0 ∷ []) $ done !
 
-    past-said : (r′ : Reader) → ent 𝓤 (ensured 𝓤 H A past.ended (past.clauses 𝓤 H A mem run) (κ, tt) (r, (rows, (i, tt))) tt r′) (fact 𝓤 (Moved s name rows w₀ i r r′))
-    past-said r′ = exE 𝓤 _ (λ ws. snd∗ 𝓤 (sem 𝓤 H A (lasts past.ended (κ, tt) (r, (rows, (i, tt))) ws)) (fact 𝓤 (Moved s name rows w₀ i r r′)))
-
     past-returned : {Γ : List (Item 𝓤)} {G : Goal 𝓤 H} → Soaks G → (x : Val) → ((r′ : Reader) → Moved s name rows w₀ i r r′ → Is B r′ (x ∷ []) → Seq (Go {0}) W (‵ (Rd r′ x) ∷ token ∷ Γ) G)
         → Seq (Go {0}) W (raw (Past 𝓤 H A mem run .post to-past x) ∷ Γ) G
     past-returned z x k =
         use1 W (later (some (λ (r′ : Reader). (token ⊛ ‵ (Rd r′ x)) ⊛ raw (ensured 𝓤 H A past.ended (past.clauses 𝓤 H A mem run) (κ, tt) (r, (rows, (i, tt))) tt r′)))) (id⊢ 𝓤 _) $ await ! z $ pick ! (λ r′.
-        split ! $ move ! (1 ∷ []) $ use1 W (raw (fact 𝓤 (Moved s name rows w₀ i r r′))) (past-said r′) $ heard ! (Moved s name rows w₀ i r r′) (λ e. split ! $ move ! (1 ∷ []) $ peeks ! B (Is B) (shows 𝓤 H A B) r′ (x ∷ []) (λ is. k r′ e is)))
+        split ! $ move ! (1 ∷ []) $ use1 W (raw (fact 𝓤 (Moved s name rows w₀ i r r′))) (exE 𝓤 _ (λ ws. snd∗ 𝓤 (sem 𝓤 H A (lasts past.ended (κ, tt) (r, (rows, (i, tt))) ws)) (fact 𝓤 (Moved s name rows w₀ i r r′)))) $ heard ! (Moved s name rows w₀ i r r′) (λ e. split ! $ move ! (1 ∷ []) $ peeks ! B (Is B) (shows 𝓤 H A B) r′ (x ∷ []) (λ is. k r′ e is)))
 
   exits : (w : Walk) (u : Val) → w ≡ walks (now s) (now name) (rowsAsk (now s) rows) (rows .first) w₀ → ent 𝓤 (⋆ 𝓤 H A (‵ (K.the-row .own w (u ∷ [])) ∷ tokens ∷ [])) (Post u)
   exits w u e =
@@ -211,12 +199,11 @@ module _ {M : Type 1} (𝓤 : URA M) (H : Heap 𝓤) (A : Atoms 𝓤) (W : Given
       move ! (1 ∷ []) $ frame ! $ nothing ! $ nothing ! $ nothing ! $ fjoin3 ! $ nothing ! $ nothing ! $ fjoin3 ! $ frame ! $ done !
 
   -- a reader, and a walk, as a local of a body has them
-  module _ (x : Val) where
-    typed-reader : (r : Reader) → Is B r (x ∷ []) → Holds (hasTy (T′.mir erased) x) × WT x
-    typed-reader r is = LL.lawful (T.the-type αᵉ) (T′.the-laws αᵉ) 𝓤 H A W .typed r _ is .0
+  typed-reader : (x : Val) (r : Reader) → Is B r (x ∷ []) → Holds (hasTy (T′.mir erased) x) × WT x
+  typed-reader x r is = let α : NamedLft = record { mir = erased; lft = κ } in LL.lawful (T.the-type α) (T′.the-laws α) 𝓤 H A W .typed r _ is .0
 
-    typed-walk : (w : Walk) → Is K.the-row w (x ∷ []) → Holds (hasTy K′.mir x) × WT x
-    typed-walk w is = EL.lawful K.the-type K′.the-laws 𝓤 H A W tt .typed w _ is .0
+  typed-walk : (x : Val) (w : Walk) → Is K.the-row w (x ∷ []) → Holds (hasTy K′.mir x) × WT x
+  typed-walk x w is = EL.lawful K.the-type K′.the-laws 𝓤 H A W tt .typed w _ is .0
 
   module _ (C : Calls 𝓤 H) (Λ : Loops 𝓤 H) (fm : FmC 𝓤 H (W .laws) C) (known-open : Triple 𝓤 (C #open) (Open 𝓤 H A mem run)) (known-take : Triple 𝓤 (C #take-row) (Take 𝓤 H A mem run)) (known-past : Triple 𝓤 (C #past-row) (Past 𝓤 H A mem run)) where
     walk : Laid (now s) (now name) rows → used w₀ ≤ 1024
@@ -231,8 +218,7 @@ module _ {M : Type 1} (𝓤 : URA M) (H : Heap 𝓤) (A : Atoms 𝓤) (W : Given
         move ! (54 ∷ []) $ use1 W (raw (Open 𝓤 H A mem run .pre to-open) ⊛ ‵ (flft κ′ q′) ⊛ ‵ Nm) (goes-open p₃) $ split ! $
         -- [what `open` asks; the name's token and what it owns; room for _26; …; _0; …]
         calls-at ! fm (Open 𝓤 H A mem run) known-open to-open (and-then ! (load ! (from ! (stop !)) (look ! 52 refl)) (and-then ! (load ! (from ! (fld ! refl (stop !))) (look-in ! 48 (sub ! 3 refl (whole !)))) (no-more !))) (λ u0. open-returned tt u0 (λ r0 e0 i0.
-        land ! (from ! (stop !)) (init ! 45 refl (typed-reader u0 r0 i0)) $
-        let h0 = here-first s name rows w₀ r0 e0 in
+        land ! (from ! (stop !)) (init ! 45 refl (typed-reader u0 r0 i0)) $ let h0 = here-first s name rows w₀ r0 e0 in
         -- for each row: [what the reader owns; the proof's token; the name's token and what it owns; …]
         assigns ! (of-opd ! (load ! (from ! (stop !)) (look ! 45 refl))) (from ! (stop !)) (init ! 23 refl (typed-reader u0 r0 i0)) $
         use3 W (raw (Take 𝓤 H A mem run .pre (to-take 0 (omega arith) r0 u0 w₀ (walkVal w₀))) ⊛ ‵ (Rd r0 u0) ⊛ ‵ Nm) (goes-take 0 (omega arith) r0 u0 w₀ (walkVal w₀) (ready 0 r0 w₀ h0 (omega arith)) p₃ p₄) $ split ! $
@@ -241,8 +227,7 @@ module _ {M : Type 1} (𝓤 : URA M) (H : Heap 𝓤) (A : Atoms 𝓤) (W : Given
         assigns ! (of-opd ! (load ! (from ! (stop !)) (look ! 44 refl))) (from ! (stop !)) (init ! 20 refl (typed-reader u0 r0 i0)) $
         use2 W (raw (Past 𝓤 H A mem run .pre (to-past 0 (omega arith) r0 u0)) ⊛ ‵ (flft κ′ q′) ⊛ ‵ Nm) (goes-past 0 (omega arith) r0 u0 p₃) $ split ! $
         calls-at ! fm (Past 𝓤 H A mem run) known-past (to-past 0 (omega arith) r0 u0) (and-then ! (load ! (from ! (stop !)) (look ! 20 refl)) (and-then ! (load ! (from ! (stop !)) (look ! 48 refl)) (and-then ! (lit ! tt) (no-more !)))) (λ u1. past-returned 0 (omega arith) r0 u0 tt u1 (λ r1 e1 i1.
-        land ! (from ! (stop !)) (init ! 41 refl (typed-reader u1 r1 i1)) $
-        let h1 = here-next s name rows w₀ 0 r0 w₀ w1 r1 h0 f0 e1 in
+        land ! (from ! (stop !)) (init ! 41 refl (typed-reader u1 r1 i1)) $ let h1 = here-next s name rows w₀ 0 r0 w₀ w1 r1 h0 f0 e1 in
         assigns ! (of-opd ! (load ! (from ! (stop !)) (look ! 41 refl))) (from ! (stop !)) (init ! 19 refl (typed-reader u1 r1 i1)) $
         use3 W (raw (Take 𝓤 H A mem run .pre (to-take 1 (omega arith) r1 u1 w1 m1)) ⊛ ‵ (Rd r1 u1) ⊛ ‵ Nm) (goes-take 1 (omega arith) r1 u1 w1 m1 (ready 1 r1 w1 h1 (omega arith)) p₃ j1) $ split ! $
         calls-at ! fm (Take 𝓤 H A mem run) known-take (to-take 1 (omega arith) r1 u1 w1 m1) (and-then ! (load ! (from ! (stop !)) (look ! 18 refl)) (and-then ! (load ! (from ! (stop !)) (look ! 50 refl)) (and-then ! (load ! (from ! (stop !)) (look ! 48 refl)) (and-then ! (lit ! tt) (and-then ! (load ! (from ! (stop !)) (look ! 42 refl)) (no-more !)))))) (λ m2. take-returned 1 (omega arith) r1 u1 w1 m1 tt m2 (λ w2 f1 j2.
@@ -250,8 +235,7 @@ module _ {M : Type 1} (𝓤 : URA M) (H : Heap 𝓤) (A : Atoms 𝓤) (W : Given
         assigns ! (of-opd ! (load ! (from ! (stop !)) (look ! 40 refl))) (from ! (stop !)) (init ! 16 refl (typed-reader u1 r1 i1)) $
         use2 W (raw (Past 𝓤 H A mem run .pre (to-past 1 (omega arith) r1 u1)) ⊛ ‵ (flft κ′ q′) ⊛ ‵ Nm) (goes-past 1 (omega arith) r1 u1 p₃) $ split ! $
         calls-at ! fm (Past 𝓤 H A mem run) known-past (to-past 1 (omega arith) r1 u1) (and-then ! (load ! (from ! (stop !)) (look ! 16 refl)) (and-then ! (load ! (from ! (stop !)) (look ! 48 refl)) (and-then ! (lit ! tt) (no-more !)))) (λ u2. past-returned 1 (omega arith) r1 u1 tt u2 (λ r2 e2 i2.
-        land ! (from ! (stop !)) (init ! 37 refl (typed-reader u2 r2 i2)) $
-        let h2 = here-next s name rows w₀ 1 r1 w1 w2 r2 h1 f1 e2 in
+        land ! (from ! (stop !)) (init ! 37 refl (typed-reader u2 r2 i2)) $ let h2 = here-next s name rows w₀ 1 r1 w1 w2 r2 h1 f1 e2 in
         assigns ! (of-opd ! (load ! (from ! (stop !)) (look ! 37 refl))) (from ! (stop !)) (init ! 15 refl (typed-reader u2 r2 i2)) $
         use3 W (raw (Take 𝓤 H A mem run .pre (to-take 2 (omega arith) r2 u2 w2 m2)) ⊛ ‵ (Rd r2 u2) ⊛ ‵ Nm) (goes-take 2 (omega arith) r2 u2 w2 m2 (ready 2 r2 w2 h2 (omega arith)) p₃ j2) $ split ! $
         calls-at ! fm (Take 𝓤 H A mem run) known-take (to-take 2 (omega arith) r2 u2 w2 m2) (and-then ! (load ! (from ! (stop !)) (look ! 14 refl)) (and-then ! (load ! (from ! (stop !)) (look ! 50 refl)) (and-then ! (load ! (from ! (stop !)) (look ! 48 refl)) (and-then ! (lit ! tt) (and-then ! (load ! (from ! (stop !)) (look ! 38 refl)) (no-more !)))))) (λ m3. take-returned 2 (omega arith) r2 u2 w2 m2 tt m3 (λ w3 f2 j3.
@@ -259,8 +243,7 @@ module _ {M : Type 1} (𝓤 : URA M) (H : Heap 𝓤) (A : Atoms 𝓤) (W : Given
         assigns ! (of-opd ! (load ! (from ! (stop !)) (look ! 36 refl))) (from ! (stop !)) (init ! 12 refl (typed-reader u2 r2 i2)) $
         use2 W (raw (Past 𝓤 H A mem run .pre (to-past 2 (omega arith) r2 u2)) ⊛ ‵ (flft κ′ q′) ⊛ ‵ Nm) (goes-past 2 (omega arith) r2 u2 p₃) $ split ! $
         calls-at ! fm (Past 𝓤 H A mem run) known-past (to-past 2 (omega arith) r2 u2) (and-then ! (load ! (from ! (stop !)) (look ! 12 refl)) (and-then ! (load ! (from ! (stop !)) (look ! 48 refl)) (and-then ! (lit ! tt) (no-more !)))) (λ u3. past-returned 2 (omega arith) r2 u2 tt u3 (λ r3 e3 i3.
-        land ! (from ! (stop !)) (init ! 33 refl (typed-reader u3 r3 i3)) $
-        let h3 = here-next s name rows w₀ 2 r2 w2 w3 r3 h2 f2 e3 in
+        land ! (from ! (stop !)) (init ! 33 refl (typed-reader u3 r3 i3)) $ let h3 = here-next s name rows w₀ 2 r2 w2 w3 r3 h2 f2 e3 in
         assigns ! (of-opd ! (load ! (from ! (stop !)) (look ! 33 refl))) (from ! (stop !)) (init ! 11 refl (typed-reader u3 r3 i3)) $
         use3 W (raw (Take 𝓤 H A mem run .pre (to-take 3 (omega arith) r3 u3 w3 m3)) ⊛ ‵ (Rd r3 u3) ⊛ ‵ Nm) (goes-take 3 (omega arith) r3 u3 w3 m3 (ready 3 r3 w3 h3 (omega arith)) p₃ j3) $ split ! $
         calls-at ! fm (Take 𝓤 H A mem run) known-take (to-take 3 (omega arith) r3 u3 w3 m3) (and-then ! (load ! (from ! (stop !)) (look ! 10 refl)) (and-then ! (load ! (from ! (stop !)) (look ! 50 refl)) (and-then ! (load ! (from ! (stop !)) (look ! 48 refl)) (and-then ! (lit ! tt) (and-then ! (load ! (from ! (stop !)) (look ! 34 refl)) (no-more !)))))) (λ m4. take-returned 3 (omega arith) r3 u3 w3 m3 tt m4 (λ w4 f3 j4.
@@ -268,8 +251,7 @@ module _ {M : Type 1} (𝓤 : URA M) (H : Heap 𝓤) (A : Atoms 𝓤) (W : Given
         assigns ! (of-opd ! (load ! (from ! (stop !)) (look ! 32 refl))) (from ! (stop !)) (init ! 8 refl (typed-reader u3 r3 i3)) $
         use2 W (raw (Past 𝓤 H A mem run .pre (to-past 3 (omega arith) r3 u3)) ⊛ ‵ (flft κ′ q′) ⊛ ‵ Nm) (goes-past 3 (omega arith) r3 u3 p₃) $ split ! $
         calls-at ! fm (Past 𝓤 H A mem run) known-past (to-past 3 (omega arith) r3 u3) (and-then ! (load ! (from ! (stop !)) (look ! 8 refl)) (and-then ! (load ! (from ! (stop !)) (look ! 48 refl)) (and-then ! (lit ! tt) (no-more !)))) (λ u4. past-returned 3 (omega arith) r3 u3 tt u4 (λ r4 e4 i4.
-        land ! (from ! (stop !)) (init ! 29 refl (typed-reader u4 r4 i4)) $
-        let h4 = here-next s name rows w₀ 3 r3 w3 w4 r4 h3 f3 e4 in
+        land ! (from ! (stop !)) (init ! 29 refl (typed-reader u4 r4 i4)) $ let h4 = here-next s name rows w₀ 3 r3 w3 w4 r4 h3 f3 e4 in
         assigns ! (of-opd ! (load ! (from ! (stop !)) (look ! 29 refl))) (from ! (stop !)) (init ! 7 refl (typed-reader u4 r4 i4)) $
         use3 W (raw (Take 𝓤 H A mem run .pre (to-take 4 (omega arith) r4 u4 w4 m4)) ⊛ ‵ (Rd r4 u4) ⊛ ‵ Nm) (goes-take 4 (omega arith) r4 u4 w4 m4 (ready 4 r4 w4 h4 (omega arith)) p₃ j4) $ split ! $
         calls-at ! fm (Take 𝓤 H A mem run) known-take (to-take 4 (omega arith) r4 u4 w4 m4) (and-then ! (load ! (from ! (stop !)) (look ! 6 refl)) (and-then ! (load ! (from ! (stop !)) (look ! 50 refl)) (and-then ! (load ! (from ! (stop !)) (look ! 48 refl)) (and-then ! (lit ! tt) (and-then ! (load ! (from ! (stop !)) (look ! 30 refl)) (no-more !)))))) (λ m5. take-returned 4 (omega arith) r4 u4 w4 m4 tt m5 (λ w5 f4 j5.
@@ -277,8 +259,7 @@ module _ {M : Type 1} (𝓤 : URA M) (H : Heap 𝓤) (A : Atoms 𝓤) (W : Given
         assigns ! (of-opd ! (load ! (from ! (stop !)) (look ! 28 refl))) (from ! (stop !)) (init ! 4 refl (typed-reader u4 r4 i4)) $
         use2 W (raw (Past 𝓤 H A mem run .pre (to-past 4 (omega arith) r4 u4)) ⊛ ‵ (flft κ′ q′) ⊛ ‵ Nm) (goes-past 4 (omega arith) r4 u4 p₃) $ split ! $
         calls-at ! fm (Past 𝓤 H A mem run) known-past (to-past 4 (omega arith) r4 u4) (and-then ! (load ! (from ! (stop !)) (look ! 4 refl)) (and-then ! (load ! (from ! (stop !)) (look ! 48 refl)) (and-then ! (lit ! tt) (no-more !)))) (λ u5. past-returned 4 (omega arith) r4 u4 tt u5 (λ r5 e5 i5.
-        land ! (from ! (stop !)) (init ! 25 refl (typed-reader u5 r5 i5)) $
-        let h5 = here-next s name rows w₀ 4 r4 w4 w5 r5 h4 f4 e5 in
+        land ! (from ! (stop !)) (init ! 25 refl (typed-reader u5 r5 i5)) $ let h5 = here-next s name rows w₀ 4 r4 w4 w5 r5 h4 f4 e5 in
         assigns ! (of-opd ! (load ! (from ! (stop !)) (look ! 25 refl))) (from ! (stop !)) (init ! 3 refl (typed-reader u5 r5 i5)) $
         use3 W (raw (Take 𝓤 H A mem run .pre (to-take 5 (omega arith) r5 u5 w5 m5)) ⊛ ‵ (Rd r5 u5) ⊛ ‵ Nm) (goes-take 5 (omega arith) r5 u5 w5 m5 (ready 5 r5 w5 h5 (omega arith)) p₃ j5) $ split ! $
         calls-at ! fm (Take 𝓤 H A mem run) known-take (to-take 5 (omega arith) r5 u5 w5 m5) (and-then ! (load ! (from ! (stop !)) (look ! 2 refl)) (and-then ! (load ! (from ! (stop !)) (look ! 50 refl)) (and-then ! (load ! (from ! (stop !)) (look ! 48 refl)) (and-then ! (lit ! tt) (and-then ! (load ! (from ! (stop !)) (look ! 26 refl)) (no-more !)))))) (λ m6. take-returned 5 (omega arith) r5 u5 w5 m5 tt m6 (λ w6 f5 j6.

@@ -2,7 +2,7 @@
 use borrow.Author.Needs.{needs}
 use mathlib.Core.Path.{sym, ap, _∙_}
 use lib.ListN.{length}
-use Rattle.rows.specs.Order.{rowOf}
+use Rattle.rows.specs.Rows.{rowOf}
 use Rattle.rows.proofs.paths_in.Statement.{statement}
 use Rattle.rows.proofs.paths_in.Tie as tie
 

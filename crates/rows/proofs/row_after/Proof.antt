@@ -1,7 +1,7 @@
 -- `rows::row_after`: as many paths on as the row has.
 use borrow.Author.Needs.{needs}
 use mathlib.Core.Path.{ap, _∙_}
-use Rattle.rows.specs.Rows.{placeAt}
+use Rattle.runs.specs.Runs.{placeAt}
 use Rattle.rows.proofs.row_after.Statement.{statement}
 use Rattle.rows.proofs.row_after.Tie as tie
 

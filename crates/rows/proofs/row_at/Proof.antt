@@ -2,7 +2,7 @@
 use borrow.Author.Needs.{needs}
 use mathlib.Core.Path.{sym, ap, _∙_}
 use Rattle.walks.specs.Walk.{walks}
-use Rattle.rows.specs.Order.{rowOf}
+use Rattle.rows.specs.Rows.{rowOf}
 use Rattle.rows.proofs.Order.{lookup-ready, history-ready}
 use Rattle.rows.proofs.row_at.Statement.{statement}
 use Rattle.rows.proofs.row_at.Tie as tie

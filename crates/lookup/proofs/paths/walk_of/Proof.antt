@@ -4,7 +4,7 @@ use native.Mathlib.Omega.{arith}
 use mathlib.Core.Path.{ap, _∙_}
 use Rattle.walks.specs.Walk.{walks}
 use Rattle.walks.specs.declared.Walk.the-variants.{On}
-use Rattle.rows.specs.Order.{rowsAsk}
+use Rattle.rows.specs.Rows.{rowsAsk}
 use Rattle.lookup.specs.Walk.{rowsOf}
 use Rattle.lookup.proofs.Tested.{keys-few}
 use Rattle.lookup.proofs.paths.walk_of.Statement.{statement}

@@ -40,7 +40,7 @@ use denote.Triple.Table.{entered, cited}
 use denote.Triple.Walked.{says, needs, Stays, stay-dropped, walkOf, goes-dropped, Walks, ends-at, walked, walk-meets}
 use denote.Exit.{yes}
 use denote.Triple.Clauses.{ensured, lasts}
-use Rattle.rows.specs.Order.{rowAsks, RowReady}
+use Rattle.rows.specs.Rows.{rowAsks, RowReady}
 use Rattle.rows.specs.declared.Rows.{Rows}
 use Rattle.walks.specs.Walk.{walks}
 use Rattle.walks.specs.declared.Walk.{Walk}

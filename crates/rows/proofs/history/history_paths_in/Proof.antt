@@ -6,7 +6,7 @@ use Prim.Native.Nat.{ℕ}
 use lib.ListN.{length}
 use Rattle.paper.specs.Bytes.{Bytes}
 use Rattle.plan.proofs.Markers.{Shifted, shifted}
-use Rattle.rows.specs.Order.{historyRow}
+use Rattle.rows.specs.Rows.{historyRow}
 use Rattle.rows.proofs.Order.{versions-length, replaced-length, current-length, after-length, marked-length, unmarked-length, no-more}
 use Rattle.rows.proofs.history.history_paths_in.Statement.{statement}
 use Rattle.rows.proofs.history.history_paths_in.Tie as tie

@@ -4,8 +4,8 @@ use native.Mathlib.Omega.{arith}
 use mathlib.Core.Path.{_≡_, ap, _∙_}
 use Prim.Native.Nat.{_≤_}
 use Rattle.bits.proofs.Powers.{marker-few, marker-shift}
-use Rattle.rows.specs.Rows.{epochFrom}
-use Rattle.rows.proofs.Cursors.{place-none, leaf-epoch}
+use Rattle.runs.specs.Runs.{epochFrom}
+use Rattle.runs.proofs.Cursors.{place-none, leaf-epoch}
 use Rattle.rows.proofs.Order.{row-unregistered, row-version, row-old, row-marker}
 use Rattle.rows.proofs.lookup.asked_of.Statement.{statement}
 use Rattle.rows.proofs.lookup.asked_of.Tie as tie

@@ -3,7 +3,7 @@ use borrow.Author.Needs.{needs}
 use native.Mathlib.Omega.{arith}
 use mathlib.Core.Path.{_≡_, sym, ap, _∙_}
 use Rattle.walks.specs.Walk.{walks}
-use Rattle.rows.proofs.Going.{used-ready, walks-none, walks-one}
+use Rattle.runs.proofs.Going.{used-ready, walks-none, walks-one}
 use Rattle.rows.proofs.Order.{lookup-none}
 use Rattle.rows.proofs.lookup.lookup_row.Statement.{statement}
 use Rattle.rows.proofs.lookup.lookup_row.Tie as tie

@@ -1,0 +1,2 @@
+-- What the contracts of the runs say.
+pub mod Runs
