@@ -11,6 +11,7 @@ import os
 import signal
 import sys
 import tempfile
+import threading
 
 sys.dont_write_bytecode = True
 import cases
@@ -67,10 +68,24 @@ def unreadable(words):
     yield "a folder as standard input", runs.ended(runs.started(redirected(words, "</"), stdin=None)), (0, line(b""), b"")
 
 
+def unending(words):
+    """What may come behind a byte more than is checked is not waited for."""
+    data = bytes(BOUND + 1)
+    ours, theirs = os.pipe()
+    run = runs.started(words, stdin=ours)
+    os.close(ours)
+    threading.Thread(target=os.write, args=(theirs, data), daemon=True).start()
+    yield f"{len(data)} bytes from a pipe that stays open", runs.ended(run), (0, line(data), b"")
+    os.close(theirs)
+
+
 def unwritable(words):
     """Where the line can't be written, the program ends all the same, and says nothing of it."""
     yield "closed standard output", runs.piped(redirected(words, ">&-"), b""), (0, b"", b"")
-    yield "full standard output", runs.piped(redirected(words, ">/dev/full"), b""), (0, b"", b"")
+    if os.path.exists("/dev/full"):
+        yield "full standard output", runs.piped(redirected(words, ">/dev/full"), b""), (0, b"", b"")
+    else:
+        print("skipped: full standard output (there is no /dev/full)")
     for ignored, status in (False, -signal.SIGPIPE), (True, 0):
         ours, theirs = os.pipe()
         os.close(ours)
@@ -83,7 +98,7 @@ def unwritable(words):
 def main():
     words = sys.argv[1:] or runs.command(runs.built("program"))
     wrong, kinds = 0, collections.Counter()
-    for group in (answered, unreadable, unwritable):
+    for group in (answered, unreadable, unending, unwritable):
         for how, seen, expected in group(words):
             kinds[" ".join((expected[1] or b"no line").decode().split()[:2])] += 1
             if seen != expected:

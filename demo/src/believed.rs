@@ -71,6 +71,19 @@ fn hidden(d: &Directory) -> Believed {
     told("It hides a version 8 beyond bo's history, with its marker.", &epochs, 4, 8, FINDER)
 }
 
+/// Another's key comes in place of bo's new one, by every rule.
+fn another(d: &Directory) -> Believed {
+    let before = Trees::honest(d, 3);
+    let mut another = before.next();
+    another.add(VERSION, 2, BO, commitment(&opening(FINDER), FINDER.as_bytes()));
+    another.add(MARKER, 1, BO, ZERO);
+    another.replace(1, BO);
+    let openly = owner(&another.head(), BO, &own_keys(), &another.history(BO, &[handset_key(BO, 1), FINDER.into()]));
+    let mut lie = told("It publishes another's key in place of bo's new one.", &[before, another], 1, 2, FINDER);
+    lie.owner.push(("bo's own handset, shown that key", openly));
+    lie
+}
+
 pub fn lies(d: &Directory) -> Vec<Believed> {
-    vec![silent(d), forgotten(d), late(d), hidden(d)]
+    vec![silent(d), forgotten(d), late(d), another(d), hidden(d)]
 }

@@ -1,7 +1,7 @@
 //! A first run: a directory of two crews over four epochs, in which a handset is lost and its key replaced; what a handset, its owner and an
 //! auditor check; why the arrow may be believed; and then a server that lies. The directory and every check are the proved functions. The lies
-//! are told with the independent implementation, which hashes whatever it is told to. Each line has what a check answered or a comparison
-//! gave; one that does not give what its scene is about ends the run.
+//! are told with the independent implementation, which hashes whatever it is told to. Each answer that it prints is what a check answered or
+//! a comparison gave; one that is not what its scene is about ends the run.
 mod bad;
 mod believed;
 mod directory;
@@ -129,7 +129,7 @@ fn files(d: &Directory, folder: &str) -> std::io::Result<()> {
 fn main() -> std::io::Result<()> {
     let d = published();
     checked(&d);
-    println!("\nWhy a friend may believe the arrow: a lookup, the audits from its head to a later one, and bo's history there are accepted, and agree");
+    println!("\nWhy a friend may believe the arrow: a lookup, the audits from its head to the last one, and bo's history there are accepted, and agree");
     (0..=4).for_each(|t| agreed(&d, t, 4));
     lied_to(&d);
     files(&d, &std::env::args().nth(1).unwrap_or_else(|| "target/demo".into()))

@@ -4,7 +4,7 @@
 //! takes any bytes, ends, and answers or refuses by name; a refusal has written to nothing. The proofs are about the functions behind these;
 //! this crate only hands slices over and names the numbers that come back, and [`read_history`] reads keys and epochs out of an accepted history.
 //!
-//! [`publish`] takes 1.3 MB of stack and a writer 2.4 MB, more than a thread of Rust's has by default: give a thread that calls them 4 MiB
+//! [`publish`] takes 1.3 MB of stack and a writer 2.3 MB, more than a thread of Rust's has by default: give a thread that calls them 4 MiB
 //! ([`std::thread::Builder::stack_size`]). A checker takes 104 KB at most.
 //!
 //! ```

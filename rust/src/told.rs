@@ -38,8 +38,9 @@ pub fn read_history<'a>(head: &[u8], name: &[u8], proof: &'a [u8]) -> Result<(Hi
 
 /// The version that was current at an epoch, by what a history tells: the last that came by then, or none.
 ///
-/// If a lookup was accepted at the head of that epoch, and each audit step from there to the history's head, then the lookup gave this version
-/// and its key: that is what is proved of the arrow.
+/// If a lookup of the same name was accepted at the head of that epoch, and each audit step from there to the history's head, then the lookup
+/// gave this version and its key, or two different strings that these checks hashed have one SHA-256 digest. That is proved of what document 01
+/// reads in a history, which [`read_history`] reads again.
 pub fn current_at<'a>(told: &[Told<'a>], epoch: u32) -> Option<Told<'a>> {
     told.iter().rev().find(|version| version.epoch <= epoch).copied()
 }

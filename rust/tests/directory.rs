@@ -50,6 +50,19 @@ impl Directory {
     }
 }
 
+/// "1 for the head, 1 for each key, m+2 for each path", counted in the proof's own bytes.
+fn digests(proof: &[u8], keys: usize) -> u32 {
+    let (mut at, mut many) = (108, 1 + keys);
+    (0..keys).for_each(|_| at += 33 + proof[at] as usize);
+    while at < proof.len() {
+        let m = usize::from(proof[at]) << 8 | usize::from(proof[at + 1]);
+        at += 2 + 34 * m;
+        at += 1 + [36, 68, 98, 0][proof[at] as usize];
+        many += m + 2;
+    }
+    many as u32
+}
+
 /// The stack that a writer takes is more than a test's thread has.
 fn with_stack(test: fn()) {
     std::thread::Builder::new().stack_size(4 << 20).spawn(test).unwrap().join().unwrap();
@@ -64,13 +77,15 @@ fn answers_are_what_was_published() {
                 let own = d.own(name, t);
                 let proof = d.written(|r, h, s, out| write_lookup(r, h, s, name, t, out));
                 match check_lookup(d.head(t), name, &proof).unwrap() {
-                    Lookup::Found { version, epoch, key, .. } => assert_eq!((Some((version, key)), epoch), (own.last().map(|v| (v.version, v.key)), t)),
-                    Lookup::NotRegistered { epoch, .. } => assert_eq!((own.len(), epoch), (0, t)),
+                    Lookup::Found { version, epoch, digests: count, key } => {
+                        assert_eq!((Some((version, key)), epoch, count), (own.last().map(|v| (v.version, v.key)), t, digests(&proof, 1)))
+                    }
+                    Lookup::NotRegistered { epoch, digests: count } => assert_eq!((own.len(), epoch, count), (0, t, digests(&proof, 0))),
                 }
                 let proof = d.written(|r, h, s, out| write_history(r, h, s, name, t, out));
                 let (history, told) = read_history(d.head(t), name, &proof).unwrap();
                 assert_eq!(check_history(d.head(t), name, &proof), Ok(history));
-                assert_eq!((history.versions as usize, history.epoch), (own.len(), t));
+                assert_eq!((history.versions as usize, history.epoch, history.digests), (own.len(), t, digests(&proof, own.len())));
                 assert_eq!(told, own);
                 assert!((0..=t).all(|e| current_at(&told, e) == d.own(name, e).last().copied()));
             }
@@ -79,6 +94,18 @@ fn answers_are_what_was_published() {
             let audit = check_audit(d.head(t - 1), d.head(t), &d.written(|r, h, s, out| write_audit(r, h, s, t, out))).unwrap();
             assert_eq!((audit.old_epoch, audit.new_epoch), (t - 1, t));
         }
+    });
+}
+
+/// Two heads, and for each of two trees the old root and the new one, with a nothing on either side.
+#[test]
+fn a_step_between_empty_epochs_counts_its_strings() {
+    with_stack(|| {
+        let (mut heads, mut out) = (vec![0; 64], vec![0; 512]);
+        let begun = start(&mut heads).unwrap();
+        let state = publish(&mut [], &mut heads, begun, &[]).unwrap();
+        let length = write_audit(&[], &heads, state, 1, &mut out).unwrap();
+        assert_eq!(check_audit(&heads[..32], &heads[32..], &out[..length]).unwrap().digests, 2 + 2 * 2 * 3);
     });
 }
 

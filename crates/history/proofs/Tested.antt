@@ -43,7 +43,7 @@ use Rattle.shown.proofs.Keyed.{item-told}
 use Rattle.shown.proofs.Fronts.{front-told}
 use Rattle.shown.proofs.Formed.{Formed}
 use Rattle.walks.proofs.Walked.{path-moves, Suits, over, walks-tests}
-use Rattle.runs.specs.Runs.{itemOn, itemAt, placeAt, epochFrom, askVersion, askReplaced, askCurrent, askMarker, lack, row, lacks, ItemsStand}
+use Rattle.runs.specs.Runs.{itemOn, itemAt, placeAt, epochFrom, askVersion, askReplaced, askMarker, lack, row, lacks, ItemsStand}
 use Rattle.rows.specs.Rows.{rowsAsk}
 use Rattle.runs.proofs.Cursors.{path-epoch}
 use Rattle.runs.proofs.Powers.{marked}

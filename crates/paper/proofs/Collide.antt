@@ -11,12 +11,10 @@ use Rattle.paper.specs.Numbers.{wide}
 use Rattle.paper.specs.Bytes.{Bytes}
 use Rattle.paper.specs.Strings.{nodeString, headString, commitmentString}
 use Rattle.paper.specs.Arrow.{Collision}
+pub use Rattle.paper.specs.Arrow.{OneToOne}
 use Rattle.paper.proofs.Lists.{all-in, some-or-all}
 use Rattle.paper.proofs.Strings.{NodeSized, HeadSized, node-inj, head-inj, commitment-inj}
 use Rattle.paper.proofs.Chain.{Hashed}
-
-abbrev pub OneToOne : List Bytes → Type 0
-OneToOne U = (x y : Bytes) → x ∈ U → y ∈ U → sha256 x ≡ sha256 y → x ≡ y
 
 bytes? : Discrete Bytes
 bytes? = List-discrete ℕ-discrete

@@ -92,6 +92,10 @@ pub record Collision (U : List Bytes) : Type 0 where
   pub differ : ¬ (one ≡ two)
   pub same : sha256 one ≡ sha256 two
 
+-- where there are none, a digest tells its string
+abbrev pub OneToOne : List Bytes → Type 0
+OneToOne U = (x y : Bytes) → x ∈ U → y ∈ U → sha256 x ≡ sha256 y → x ≡ y
+
 -- what demand 3 says of the lookup: it gave the version and key that the history says was current at its epoch; and the history's
 -- epoch is the lookup's and one for each step
 pub record Agrees (lookup : LookupAnswer) (lookupBytes : Bytes) (steps : List AuditStep) (history : HistoryAnswer) (historyBytes : Bytes) : Type 0 where

@@ -1,5 +1,5 @@
 -- `lookup::paths::counted`: version 0 has no key, and any other one.
-use mathlib.Core.Path.{_≡_, sym, ap}
+use mathlib.Core.Path.{sym, ap}
 use Prim.Native.Nat.{_+_}
 use Rattle.paper.specs.Lookup.{lookupKeys}
 use Rattle.lookup.proofs.Tested.{some-parts}

@@ -10,11 +10,11 @@ use Rattle.walks.specs.declared.Walk.{Walk}
 use Rattle.paper.proofs.Asked.{by-most}
 use Rattle.plan.specs.Asked.{markersOf}
 use Rattle.plan.proofs.Markers.{markers-most}
-use Rattle.runs.specs.Runs.{askVersion, askReplaced, askMarker, row, lacks, used}
+use Rattle.runs.specs.Runs.{askVersion, askMarker, row, lacks, used}
 use Rattle.rows.specs.Rows.{historyRow}
 use Rattle.runs.proofs.Going.{walks-none}
 use Rattle.rows.proofs.Order.{no-more}
-use Rattle.runs.proofs.Powers.{Power, power}
+use Rattle.runs.proofs.Powers.{power}
 use Rattle.rows.proofs.history.history_row.Statement.{statement}
 use Rattle.rows.proofs.history.history_row.Tie as tie
 

@@ -1,10 +1,9 @@
 -- `rows::lookup::asked_of`: the version and the number of the row say what is asked.
 use borrow.Author.Needs.{needs}
 use native.Mathlib.Omega.{arith}
-use mathlib.Core.Path.{_≡_, ap, _∙_}
+use mathlib.Core.Path.{_∙_}
 use Prim.Native.Nat.{_≤_}
 use Rattle.bits.proofs.Powers.{marker-few, marker-shift}
-use Rattle.runs.specs.Runs.{epochFrom}
 use Rattle.runs.proofs.Cursors.{place-none, leaf-epoch}
 use Rattle.rows.proofs.Order.{row-unregistered, row-version, row-old, row-marker}
 use Rattle.rows.proofs.lookup.asked_of.Statement.{statement}

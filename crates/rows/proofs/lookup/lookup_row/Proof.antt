@@ -1,7 +1,6 @@
 -- `rows::lookup::lookup_row`: a row is one path, or none.
 use borrow.Author.Needs.{needs}
 use native.Mathlib.Omega.{arith}
-use mathlib.Core.Path.{_≡_, sym, ap, _∙_}
 use Rattle.walks.specs.Walk.{walks}
 use Rattle.runs.proofs.Going.{used-ready, walks-none, walks-one}
 use Rattle.rows.proofs.Order.{lookup-none}
