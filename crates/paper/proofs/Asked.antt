@@ -108,3 +108,5 @@ lookup-only zero a (inl e) = subst (Only zero) (sym e) (not_there (in_all 1) (la
 lookup-only (suc v) a (inl e) = subst (Only (suc v)) (sym e) (a-version v (omega arith))
 lookup-only (suc v) a (inr (inl e)) = subst (Only (suc v)) (sym e) (not_there (in_old (suc v)) last)
 lookup-only (suc v) a (inr (inr (inl e))) = subst (Only (suc v)) (sym e) (a-marker (log2 (suc v)) (omega arith) (omega arith))
+lookup-only zero a (inr m) = elim m [ ]
+lookup-only (suc v) a (inr (inr (inr m))) = elim m [ ]

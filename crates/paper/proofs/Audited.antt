@@ -45,6 +45,7 @@ entries-build N (suc n) q (y ∷ z ∷ S) f b h k x m =
         → x ∈ (entries (build n (side (common y (z ∷ S) ▹ false) (y ∷ z ∷ S))) ++ entries (build n (side (common y (z ∷ S) ▹ true) (y ∷ z ∷ S))))
     pick false m = in_left x (entries (build n (side (common y (z ∷ S) ▹ false) (y ∷ z ∷ S)))) (entries (build n (side (common y (z ∷ S) ▹ true) (y ∷ z ∷ S)))) m
     pick true m = in_right x (entries (build n (side (common y (z ∷ S) ▹ false) (y ∷ z ∷ S)))) (entries (build n (side (common y (z ∷ S) ▹ true) (y ∷ z ∷ S)))) m
+entries-build N (suc n) q [] f b h k x m = elim m [ ]
 
 free-append : (A B : List Node) → Free A → Free B → ((x y : Node) → x ∈ A → y ∈ B → Apart x y) → Free (A ++ B)
 free-append [] B f g h = g

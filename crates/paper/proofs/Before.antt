@@ -66,6 +66,7 @@ keep-fewer f p q h (r ∷ rs) = by (p r) refl (q r) refl (keep-fewer f p q h rs)
 flat_in : {A B : Type 0} (f : A → List B) (l : List A) (b : B) → b ∈ flat_map f l → (a : A) × (a ∈ l) × (b ∈ f a)
 unfolding flat_map
 flat_in f (x ∷ l) b m = ⊎_elim (λ k. (x, inl refl, k)) (λ k. let (a, i, j) = flat_in f l b k in (a, inr i, j)) (in-append (f x) (flat_map f l) b m)
+flat_in {A = A} {B = B} f [] b m = elim m [ ]
 
 -- a leaf of epoch e
 abbrev pub Dated : ℕ → Node → Type 0

@@ -64,6 +64,7 @@ pub in-flat : {A B : Type 0} (f : A → List B) (l : List A) (a : A) (b : B) →
 unfolding flat_map
 in-flat f (x ∷ l) a b (inl e) m = in_left b (f x) (flat_map f l) (subst (λ y. b ∈ f y) e m)
 in-flat f (x ∷ l) a b (inr k) m = in_right b (f x) (flat_map f l) (in-flat f l a b k m)
+in-flat {A = A} {B = B} f [] a b k m = elim k [ ]
 
 pub all-flat : {A B : Type 0} (P : B → Type 0) (f : A → List B) (l : List A) → All (λ a. All P (f a)) l → All P (flat_map f l)
 unfolding flat_map

@@ -42,6 +42,7 @@ module _ {A : Type 0} where
   pub all_in : (P : A → Type 0) (l : List A) → All P l → (a : A) → a ∈ l → P a
   all_in P (b ∷ l) h a (inl e) = subst P (sym e) h.0
   all_in P (b ∷ l) h a (inr m) = all_in P l h.1 a m
+  all_in P [] h a m = elim m [ ]
 
   pub in-all : (P : A → Type 0) (l : List A) → ((a : A) → a ∈ l → P a) → All P l
   in-all P [] f = tt
@@ -84,6 +85,7 @@ module _ {A : Type 0} where
   pub in_left : (a : A) (l m : List A) → a ∈ l → a ∈ (l ++ m)
   in_left a (b ∷ l) m (inl e) = inl e
   in_left a (b ∷ l) m (inr k) = inr (in_left a l m k)
+  in_left a [] m k = elim k [ ]
 
   pub in_right : (a : A) (l m : List A) → a ∈ m → a ∈ (l ++ m)
   in_right a [] m k = k
@@ -145,6 +147,7 @@ module _ {A : Type 0} where
       by : (c : Bool) → a ∈ keep t l → a ∈ cond c (b ∷ keep t l) (keep t l)
       by true k = inr k
       by false k = k
+  in-keep t [] a m h = elim m [ ]
 
   pub keep_append : (t : A → Bool) (l m : List A) → keep t (l ++ m) ≡ keep t l ++ keep t m
   unfolding keep
@@ -202,6 +205,7 @@ up_from-length a (suc k) = ap suc (up_from-length (suc a) k)
 pub in_map : {A B : Type 0} (f : A → B) (l : List A) (a : A) → a ∈ l → f a ∈ map f l
 in_map f (b ∷ l) a (inl e) = inl (ap f e)
 in_map f (b ∷ l) a (inr m) = inr (in_map f l a m)
+in_map {A = A} {B = B} f [] a m = elim m [ ]
 
 pub all_map : {A B : Type 0} (P : B → Type 0) (f : A → B) (l : List A) → All P (map f l) → All (λ a. P (f a)) l
 all_map P f [] h = tt
@@ -228,6 +232,7 @@ up_from-snoc a (suc k) = let e : suc a + k ≡ a + suc k = omega arith in ap (λ
 pub map-in : {A B : Type 0} (f : A → B) (l : List A) (b : B) → b ∈ map f l → (a : A) × (a ∈ l) × (b ≡ f a)
 map-in f (x ∷ l) b (inl e) = (x, inl refl, e)
 map-in f (x ∷ l) b (inr m) = let (a, k, e) = map-in f l b m in (a, inr k, e)
+map-in {A = A} {B = B} f [] b m = elim m [ ]
 
 pub up_from-in : (a k i : ℕ) → i ∈ up_from a k → (a ≤ i) × (i < a + k)
 unfolding up_from

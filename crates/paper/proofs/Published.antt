@@ -129,7 +129,7 @@ module _ (lab : Labelling) (records heads : Bytes) (state : State) (kept : Kept 
       size = length-append rs more ∙ ap (λ k. k + length more) kept.size;
       shape = published-shape lab state.epoch rs kept.shape us x.holds.1.0;
       record-bytes = pasted-bytes records (state.count * record_size) bytes lie.records-room kept.record-bytes b;
-      head-bytes = pasted-bytes heads (next * wide) head lie.heads-room kept.head_bytes (digest-wide _).bytes;
+      head-bytes = pasted-bytes heads (next * wide) head lie.heads-room kept.head-bytes (digest-wide _).bytes;
       records-within = records-same records records' (sym (pasted_length records (state.count * record_size) bytes lie.records-room)) kept.records-within;
       heads-within = within_same heads heads' (sym (pasted_length heads (next * wide) head lie.heads-room)) kept.heads-within;
       room = omega (arith, lie.size, lie.count, lie.records-room, pasted_length records (state.count * record_size) bytes lie.records-room);

@@ -128,6 +128,6 @@ pairs-both {P} {Q} {S} f (x ∷ R) p q = (go R p.0 q.0, pairs-both f R p.1 q.1)
 
 pub pairs-tell : (R : List AuditRecord) → Pairs Before R ↔ (Pairs (λ x y. Pfx x y ⊎ Before x y) R × Pairs (λ x y. (¬ Pfx x y) × (¬ Pfx y x)) R)
 pairs-tell R = (
-  λ b. (pairs-both (λ x y p q. inr p) R b b, pairs-both (λ x y p q. before-apart x y p) R b b),
-  λ (o, a). pairs-both (λ x y p q. ⊎_elim (λ h. absurd (q.0 h)) (λ b. b) p) R o a,
+  λ b. (pairs-both {P = Before} {Q = Before} {S = λ x y. Pfx x y ⊎ Before x y} (λ x y p q. inr p) R b b, pairs-both {P = Before} {Q = Before} {S = λ x y. (¬ Pfx x y) × (¬ Pfx y x)} (λ x y p q. before-apart x y p) R b b),
+  λ (o, a). pairs-both {P = λ x y. Pfx x y ⊎ Before x y} {Q = λ x y. (¬ Pfx x y) × (¬ Pfx y x)} {S = Before} (λ x y p q. ⊎_elim (λ h. absurd (q.0 h)) (λ b. b) p) R o a,
 )

@@ -117,6 +117,8 @@ module _ (lab : Labelling) (sized : Sized lab) (name : Bytes) (U : List Bytes) (
   pub show-in : (h : Head) (terms : Terms) (asked : List Asked) (ps : List Path) → AllShow h terms asked ps → (a : Asked) → a ∈ asked → (p : Path) × Shows a.there h terms a.place p
   show-in h terms (b ∷ more) (p ∷ ps) s a (inl e) = (p, subst (λ a. Shows a.there h terms a.place p) (sym e) s.0)
   show-in h terms (b ∷ more) (p ∷ ps) s a (inr m) = show-in h terms more ps s.1 a m
+  show-in h terms [] ps s a m = elim m [ ]
+  show-in h terms (b ∷ more) [] s a _ = elim s [ ]
 
   -- the i-th that is asked, the i-th path shows
   pub show-at : (h : Head) (terms : Terms) (asked : List Asked) (ps : List Path) → AllShow h terms asked ps → (a₀ : Asked) (p₀ : Path) (i : ℕ) → i < length asked
@@ -124,3 +126,4 @@ module _ (lab : Labelling) (sized : Sized lab) (name : Bytes) (U : List Bytes) (
   show-at h terms [] ps s a₀ p₀ i l = absurd (omega arith)
   show-at h terms (a ∷ more) (p ∷ ps) s a₀ p₀ zero l = s.0
   show-at h terms (a ∷ more) (p ∷ ps) s a₀ p₀ (suc i) l = show-at h terms more ps s.1 a₀ p₀ i (omega arith)
+  show-at h terms (a ∷ more) [] s a₀ p₀ i l = elim s [ ]

@@ -48,7 +48,7 @@ module _ (lab : Labelling) {records heads : Bytes} {state : State} (k : Kept lab
     lies = k.lies;
     epochs = epochs-few heads state.epoch k.lies k.heads-within;
     head-is = k.head-is;
-    previous = previous-wide heads state.epoch k.lies k.head_bytes;
+    previous = previous-wide heads state.epoch k.lies k.head-bytes;
     all-distinct = k.all-distinct;
     old-distinct = k.old-distinct;
   }

@@ -75,6 +75,7 @@ from-news new (opened p l r ∷ R) h x (inl q) = inl (inl q)
 from-news new (opened p l r ∷ R) h x (inr k) = ⊎_elim (λ w. inl (inr w)) inr (from-news new R h.1 x k)
 from-news new (fresh m c e ∷ R) h x (inl q) = inr (m, c, q ∙ ap (leaf m c) h.0.1, h.0.0)
 from-news new (fresh m c e ∷ R) h x (inr k) = from-news new R h.1 x k
+from-news new [] h x m = elim m [ ]
 
 to-news : (R : List AuditRecord) (x : Node) → x ∈ olds R → x ∈ news R
 unfolding olds news
@@ -83,6 +84,7 @@ to-news (unchanged m c e ∷ R) x (inr k) = inr (to-news R x k)
 to-news (opened p l r ∷ R) x (inl q) = inl q
 to-news (opened p l r ∷ R) x (inr k) = inr (to-news R x k)
 to-news (fresh m c e ∷ R) x k = inr (to-news R x k)
+to-news [] x k = elim k [ ]
 
 cover : (L : Bits) (S : List Node) → ((x : Node) × (x ∈ S) × Pfx (key x) L) ⊎ Uncovered L S
 cover L S = some-or-all _ _ (λ x. ⊎_elim (λ e. inl (starts-pfx (key x) L e)) (λ e. inr (no-pfx (key x) L e)) (true-or-false (starts (key x) L))) S

@@ -22,6 +22,7 @@ unfolding common
 common-pfx x [] y (inl e) = rw e (pfx-refl _)
 common-pfx x (z ∷ S) y (inl e) = rw e (lcp-left _ _)
 common-pfx x (z ∷ S) y (inr m) = pfx-trans (lcp-right _ _) (common-pfx z S y m)
+common-pfx x [] y (inr m) = elim m [ ]
 
 pub common-most : (q : Bits) (x : Node) (S : List Node) → All (λ y. Pfx q (key y)) (x ∷ S) → Pfx q (common x S)
 unfolding common

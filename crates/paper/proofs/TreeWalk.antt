@@ -1,7 +1,7 @@
 -- What a label's walk from the root of a tree comes to: what it comes to from the node that covers it, or absent if none does.
 -- Assumes nothing.
 use mathlib.Core.Path.{◌≡◌, refl, ap}
-use mathlib.Core.Logic.{inl, ⊎_elim}
+use mathlib.Core.Logic.{inr, inl, ⊎_elim}
 use mathlib.Core.Bool.{Bool, true, false}
 use mathlib.Core.List.{List, [], ◌∷◌}
 use Prim.Native.Nat.{ℕ, zero, suc, ◌+◌, ◌<◌, ◌≤◌}
@@ -82,6 +82,8 @@ module _ (W : World) (L : Bits) where
       (omega (arith, length-snoc p d, pfx-length (common-most q y (z ∷ S) h)))
       x (in-side _ (y ∷ z ∷ S) x m w) c)
       i
+  build-leads N (suc n) q [] f b h k x m c i = elim m [ ]
+  build-leads N (suc n) q (y ∷ []) f b h k x (inr m) c i = elim m [ ]
 
   -- the walk of a label from the root comes to what it comes to from the node that covers it
   pub root-leads : (S : List Node) → Free S → All (λ y. length (key y) ≤ 256) S → All (λ y. 0 < length (key y)) S → (x : Node) → x ∈ S → Pfx (key x) L → Leads (root S) x

@@ -1,7 +1,7 @@
 -- A label's own path in a tree: it gives the tree's root, its lengths rise, and its end shows the leaf that is there, or that none is.
 -- Assumes nothing.
 use mathlib.Core.Path.{◌≡◌, refl, sym, ap, ◌∙◌, subst}
-use mathlib.Core.Logic.{inl, ⊎_elim}
+use mathlib.Core.Logic.{inr, inl, ⊎_elim}
 use mathlib.Core.Bool.{Bool, true, false, cond, not}
 use mathlib.Core.List.{List, [], ◌∷◌, ◌++◌}
 use Prim.Native.Nat.{ℕ, zero, suc, ◌+◌, ◌<◌, ◌≤◌}
@@ -222,6 +222,8 @@ build-present N (suc n) q L c e (x ∷ y ∷ S) z f b h k m =
         → way_end L (cond d (build n (side (common x (y ∷ S) ▹ true) (x ∷ y ∷ S))) (build n (side (common x (y ∷ S) ▹ false) (x ∷ y ∷ S)))) ≡ this c e
     pick true g = g
     pick false g = g
+build-present N (suc n) q L c e [] z f b h k m = elim m [ ]
+build-present N (suc n) q L c e (y ∷ []) z f b h k (inr m) = elim m [ ]
 
 -- what stands alone in a tree stood in the list
 pub build-entries : (n : ℕ) (S : List Node) (x : Node) → x ∈ entries (build n S) → x ∈ S
