@@ -1,6 +1,8 @@
 // Demand 3 end to end, as code: "Suppose an owner's history is accepted at the head of epoch T, each audit step from the head of epoch t up
 // to that head is accepted, and anyone's lookup of the same name is accepted at the head of epoch t": whether that is so, for no step and
 // for one. What a true answer says follows from the three checkers' contracts alone and the theorem of proofs/, which has any run of steps.
+#![tactic(auto)]
+
 mod numbers;
 
 ghost use Rattle.std.specs.Prelude.{[], ◌∷◌};

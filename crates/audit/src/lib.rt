@@ -3,6 +3,8 @@
 //
 // Places: the opening bytes at 0; the old head's opening at 6 and the new head's at 106, each with its epoch, its
 // previous head 4 further, the root of *all* 36 further and the root of *old* 68 further; the list of *all* at 206.
+#![tactic(auto)]
+
 ghost use Rattle.std.specs.Prelude.{◌≡◌, ◌+◌, ◌≤◌, length};
 ghost use Rattle.paper.specs.Audit.{check_audit};
 ghost use Rattle.audit_form.specs.Places.{behind_at, audit_at, Listed, Laid};
@@ -29,7 +31,7 @@ const ROOT: u8 = 4;
 const RULE: u8 = 5;
 
 // What a part of the tests comes to: how many digests it took, or the number of the first test that fails.
-#[derive(Drop)]
+#[derive(Clone, Copy)]
 pub enum Checked {
     Passed(u32),
     Refused(u8),

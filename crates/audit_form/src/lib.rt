@@ -1,5 +1,7 @@
 // The layout of an audit proof, tested over the lent bytes before anything else is. Nothing is copied: a step hands the
 // next one a place in the bytes, and no more.
+#![tactic(auto)]
+
 ghost use Rattle.std.specs.Prelude.{◌≡◌, ◌+◌, ◌≤◌, length, drop};
 ghost use Rattle.paper.specs.Layout.{times, parse, in_layout};
 ghost use Rattle.paper.specs.Fields.{prefix_field};

@@ -4,6 +4,8 @@
 //
 // "Kinds 0 and 1 build the old root, all records the new.": both recursions run over all records. In the old one a new
 // leaf comes to no node, and where a side has no node the other side is the whole tree.
+#![tactic(auto)]
+
 ghost use Rattle.std.specs.Prelude.{◌≡◌, true, [], ◌+◌, ◌*◌, ◌^◌, ◌≤◌, ◌<◌, length};
 ghost use Rattle.paper.specs.Tree as T;
 ghost use Rattle.paper.specs.Audit.{in_order};
@@ -17,7 +19,7 @@ use ranges::digest_at;
 use words::{read16, read32};
 
 // What a tree comes to: the digest of its top node, and how many nodes are hashed for it. No node at all is count 0.
-#[derive(Drop)]
+#[derive(Clone, Copy)]
 pub struct Built {
     pub digest: [u8; 32],
     pub count: u32,

@@ -1,5 +1,7 @@
 // The rules of an audit's list, tested over the lent bytes: its order, and what each leaf's epoch and commitment must be.
 // A list is given as the place of its first record and their number; each record has 99 bytes.
+#![tactic(auto)]
+
 ghost use Rattle.std.specs.Prelude.{◌≡◌, ◌&&◌, ◌+◌, ◌*◌, ◌≤◌, length, take, drop};
 ghost use Rattle.paper.specs.Lists.{every};
 ghost use Rattle.paper.specs.Audit.{before?, in_order, commitment_in, record_rule};

@@ -1,4 +1,6 @@
 // A batch of updates, each of 162 bytes: "a record without version and epoch".
+#![tactic(auto)]
+
 ghost use Rattle.std.specs.Prelude.{◌≡◌, ℕ, suc, ◌+◌, ◌*◌, ◌≤◌, ◌<◌, length, drop};
 ghost use Rattle.paper.specs.Layout.{in_layout, parse, times};
 ghost use Rattle.paper.specs.Labelling.{plain};

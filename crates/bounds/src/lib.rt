@@ -1,4 +1,6 @@
 // The bounds of what a server is lent: how many bytes a table, a batch and a row of leaves may have.
+#![tactic(auto)]
+
 ghost use Rattle.std.specs.Prelude.{◌≡◌};
 ghost use Rattle.paper.specs.Table.{records_within, heads_within};
 ghost use Rattle.paper.specs.Publish.{batch_within};

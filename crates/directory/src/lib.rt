@@ -1,5 +1,7 @@
 // A directory, "tables and state that publishing left": it begins, and goes on. What is written from one, and what a writer reads of it,
 // are theorems of proofs/, which hold for any labelling.
+#![tactic(auto)]
+
 ghost use Rattle.paper.specs.Labelling.{plain};
 ghost use Rattle.paper.specs.Left.{Left};
 ghost use Rattle.directory.specs.Begun as B;

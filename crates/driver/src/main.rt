@@ -1,5 +1,7 @@
 // The driver, through which tests put requests to the functions of the other crates: docs/DRIVER.md has the format. It reads requests
 // from standard input until that ends, and writes a line for each.
+#![tactic(auto)]
+
 mod rooms;
 
 ghost use Rattle.wire.specs.Rooms.{Spacious, Roomy};

@@ -1,5 +1,7 @@
 // Either tree of an epoch, stored so that paths can be written from it: the leaves of the counted records are gathered into a lent
 // row, brought into bit order there, and the digests below the root are kept in lent slots.
+#![tactic(auto)]
+
 ghost use Rattle.record.specs.Places.{records_in};
 ghost use Rattle.gather.specs.Gathered.{leaves_by};
 ghost use Rattle.forest.specs.Grown.{Ground, Grows};
@@ -9,7 +11,7 @@ use gather::gather;
 use tree::{Sides, store};
 
 // How many leaves a tree has, whether no two of them share a label, and then the two sides of its root.
-#[derive(Drop)]
+#[derive(Clone, Copy)]
 pub struct Grown {
     pub leaves: usize,
     pub clear: bool,

@@ -1,4 +1,6 @@
 // What stands before a proof's paths: header, head and number in 108 bytes, and then the keys with their openings.
+#![tactic(auto)]
+
 mod keys;
 mod opening;
 

@@ -1,5 +1,7 @@
 // The leaves that records give the trees of an epoch, one behind the other in a row of entries: label 32, commitment 32,
 // epoch 4. Labels and commitments are hashed here and nowhere else in the server.
+#![tactic(auto)]
+
 ghost use Rattle.std.specs.Prelude.{true, false, [], ◌∷◌, ◌+◌, ◌*◌, ◌≤◌, length};
 ghost use Rattle.paper.specs.Bits.{bits_of};
 ghost use Rattle.paper.specs.Strings.{leaf};

@@ -1,5 +1,7 @@
 // The driver's calls of the handset: the checkers, the checking program's line, and what they rest on. docs/DRIVER.md has each call's
 // fields and answer. A call is one function, which reads its fields and answers a whole request, and one arm of `answer`.
+#![tactic(auto)]
+
 ghost use Rattle.wire.specs.Rooms.{Spacious};
 
 use paper::{AuditAnswer, HistoryAnswer, LookupAnswer};

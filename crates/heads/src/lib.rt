@@ -1,5 +1,7 @@
 // The digest of a head, from its parts and where a proof opens it. An array is made of the string's
 // first byte alone, and the other parts are laid over it, one right behind the other, from place 1 on.
+#![tactic(auto)]
+
 ghost use Rattle.std.specs.Prelude.{◌≡◌, ◌+◌, ◌≤◌, length};
 ghost use Rattle.fips.specs.Sha256 as F;
 ghost use Rattle.paper.specs.Strings as S;

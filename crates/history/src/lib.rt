@@ -1,5 +1,7 @@
 // The history check: a name's versions, all of them, against a head that the handset has. The proof is lent and read in place, and
 // its paths are taken row by row (`reader`, `rows`).
+#![tactic(auto)]
+
 ghost use Rattle.std.specs.Prelude.{◌≡◌};
 ghost use Rattle.paper.specs.Labelling.{plain};
 ghost use Rattle.paper.specs.History.{check_history};

@@ -1,6 +1,8 @@
 // The digests that stand for a name's versions and markers, and for a key. An array is made of the
 // string's first byte alone and has room for the longest name or key; the other parts are laid over
 // it, one right behind the other, from place 1 on, and its front is hashed.
+#![tactic(auto)]
+
 ghost use Rattle.std.specs.Prelude.{◌≡◌, ◌≤◌, length};
 ghost use Rattle.fips.specs.Sha256 as F;
 ghost use Rattle.paper.specs.Strings as S;

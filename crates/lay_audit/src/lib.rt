@@ -1,5 +1,7 @@
 // An audit proof out of the two trees of its new epoch as they are stored, and "8 ROOM": the lists are counted, and the proof is laid if it
 // has room.
+#![tactic(auto)]
+
 mod lay;
 
 ghost use Rattle.std.specs.Prelude.{◌≡◌, true};

@@ -1,6 +1,8 @@
 // Digests of sample strings of each kind that document 01 hashes, and bytes that were read, written
 // and compared, a line each, to hold against a second reading of the document. The other's lines
 // are the file stdout; tests/leaves_stdout.py makes it.
+#![tactic(auto)]
+
 ghost use Rattle.std.specs.Prelude.{◌≤◌};
 
 use libc::STDOUT_FILENO;

@@ -1,4 +1,6 @@
 // The tree level, which takes labels directly.
+#![tactic(auto)]
+
 mod entry;
 mod path;
 mod root;
@@ -7,7 +9,7 @@ pub use entry::{tree_path, tree_root};
 pub use root::root_of;
 
 // Whether no two of the leaves share a label, and then their root.
-#[derive(Drop)]
+#[derive(Clone, Copy)]
 pub struct Rooted {
     pub clear: bool,
     pub root: [u8; 32],

@@ -1,5 +1,7 @@
 // The checking program's line, as a function of its input: "`version V epoch T digests C` .. or `refused N`", and a newline.
 // The line grows from the front of a text of 64 bytes, which holds the longest.
+#![tactic(auto)]
+
 ghost use Rattle.std.specs.Prelude.{◌≡◌, ◌+◌, ◌≤◌, length};
 ghost use Rattle.paper.specs.Program as P;
 ghost use Rattle.paper.specs.declared.LookupAnswer.TheVariants.{Refused};
@@ -11,7 +13,7 @@ use ranges::put;
 use shown::INPUT;
 
 // Bytes, of which the first `length` are written, and the others zero.
-#[derive(Drop)]
+#[derive(Clone, Copy)]
 pub struct Text {
     pub bytes: [u8; 64],
     pub length: usize,

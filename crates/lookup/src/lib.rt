@@ -1,5 +1,7 @@
 // The lookup check: what the bytes of a proof show, under a head, of a name's current version. "Checkers test 1, 2 over the whole
 // proof, 3; then lookup and history take paths in order, 4 before 5 for each."
+#![tactic(auto)]
+
 mod key;
 mod paths;
 

@@ -1,4 +1,6 @@
 // The bounds of a name.
+#![tactic(auto)]
+
 ghost use Rattle.std.specs.Prelude.{◌≡◌};
 ghost use Rattle.paper.specs.Fields.{is_name};
 

@@ -1,4 +1,6 @@
 // What a batch adds, worked out before anything is written: its records, and the head of the new epoch over both its trees.
+#![tactic(auto)]
+
 mod fresh;
 mod heading;
 mod plant;
@@ -7,7 +9,7 @@ pub use fresh::prepare;
 pub use heading::{head_of, refused};
 
 // The number of a refusal, or 0 and the new epoch's head.
-#[derive(Drop)]
+#[derive(Clone, Copy)]
 pub struct Weighed {
     pub number: u8,
     pub head: [u8; 32],

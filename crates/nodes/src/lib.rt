@@ -1,6 +1,8 @@
 // The digests of a tree's nodes, a function for each of document 01's strings. An array is made of the
 // string's first byte alone, and the other parts are laid over it, one right behind the other, from
 // place 1 on.
+#![tactic(auto)]
+
 ghost use Rattle.std.specs.Prelude.{◌≡◌};
 ghost use Rattle.fips.specs.Sha256 as F;
 ghost use Rattle.paper.specs.Strings as S;

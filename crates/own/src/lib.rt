@@ -1,5 +1,7 @@
 // A name's records by an epoch: "A lookup at epoch t answers the name's last version with epoch at most t, or version 0; a history
 // answers all its versions by then." The counted records are passed over one by one.
+#![tactic(auto)]
+
 ghost use Rattle.std.specs.Prelude.{◌≡◌, ℕ, ◌<◌, length};
 ghost use Rattle.paper.specs.Labelling.{plain};
 ghost use Rattle.paper.specs.Write.{versions_by};

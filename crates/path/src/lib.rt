@@ -1,5 +1,7 @@
 // A path of a lookup or history proof, taken at its place in the lent bytes: the root that it gives for a label, and what its end
 // shows.
+#![tactic(auto)]
+
 mod absence;
 mod root;
 
@@ -12,7 +14,7 @@ use ranges::same;
 use root::root_of;
 
 // "End 0 shows presence, the others absence", where the rules of absence hold.
-#[derive(Drop)]
+#[derive(Clone, Copy)]
 pub enum Shown {
     Present(u32),
     Absent,
@@ -20,7 +22,7 @@ pub enum Shown {
 }
 
 // A path that was taken for a label under a root: how many nodes its steps are, whether it gives the root, and what it shows.
-#[derive(Drop)]
+#[derive(Clone, Copy)]
 pub struct Taken {
     pub good: bool,
     pub nodes: u32,

@@ -1,4 +1,6 @@
 // The fields of a path, each written into a lent output at a place: a step, and the ends that have fields. Each answers the place behind.
+#![tactic(auto)]
+
 ghost use Rattle.std.specs.Prelude.{◌∷◌, ◌≡◌, ◌+◌, ◌≤◌, length, take};
 ghost use Rattle.paper.specs.Bits.{bits_of};
 ghost use Rattle.paper.specs.Tree.{key};

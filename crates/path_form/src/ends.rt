@@ -10,7 +10,7 @@ use ranges::{digest_at, same};
 use words::{read16, read32};
 
 // An end as it was read from some place on, and the place behind it.
-#[derive(Drop)]
+#[derive(Clone, Copy)]
 pub struct Ended {
     pub good: bool,
     pub end: End,

@@ -1,12 +1,14 @@
 // The form of a path of a lookup or history proof, at its place in the lent bytes. Nothing is copied but the commitment: a parsed
 // path holds places and numbers, and the siblings stay where they lie.
+#![tactic(auto)]
+
 mod ends;
 mod form;
 
 pub use form::parse;
 
 // How a path ends, with the place of the end's fields, right behind its kind, and the epoch of its leaf.
-#[derive(Drop)]
+#[derive(Clone, Copy)]
 pub enum End {
     This { at: usize, epoch: u32 },
     Other { at: usize, epoch: u32 },
@@ -15,7 +17,7 @@ pub enum End {
 }
 
 // A parsed path: where its steps stand and how many there are, its end, the commitment of "this leaf", and the place behind it.
-#[derive(Drop)]
+#[derive(Clone, Copy)]
 pub struct Path {
     pub good: bool,
     pub steps: usize,

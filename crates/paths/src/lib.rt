@@ -1,5 +1,7 @@
 // The paths of a lookup or history proof, out of the two trees of an epoch: they are measured before anything is written, since the
 // proof's whole length is tested against the output, and then written one behind the other.
+#![tactic(auto)]
+
 mod places;
 mod sizes;
 mod write;
@@ -8,7 +10,7 @@ pub use sizes::measure_paths;
 pub use write::write_paths;
 
 // Which paths a proof has: those of a history or of a lookup, its number, and its epoch.
-#[derive(Drop)]
+#[derive(Clone, Copy)]
 pub struct Plan {
     pub history: bool,
     pub number: u16,
@@ -16,7 +18,7 @@ pub struct Plan {
 }
 
 // Whether no label that is to be shown absent is there, and how many bytes paths have.
-#[derive(Drop)]
+#[derive(Clone, Copy)]
 pub struct Measure {
     pub clear: bool,
     pub size: usize,

@@ -1,5 +1,7 @@
 // The order of a proof's paths: how many paths a lookup and a history have, and what the i-th of them is asked to show. Checkers and
 // writers go through the paths by number and need no list of them. Each function is total: no caller has a bound to show.
+#![tactic(auto)]
+
 mod history;
 mod lookup;
 
@@ -9,7 +11,7 @@ pub use history::{history_asked, history_paths, markers_by, markers_of};
 pub use lookup::{lookup_asked, lookup_paths};
 
 // A place in the trees: version i in *all*, version i in *old*, marker j in *all*.
-#[derive(Drop)]
+#[derive(Clone, Copy)]
 pub enum Place {
     InAll(u16),
     InOld(u16),
@@ -17,7 +19,7 @@ pub enum Place {
 }
 
 // What a path is to show of a place: that its label is there, or that it is not.
-#[derive(Drop)]
+#[derive(Clone, Copy)]
 pub struct Asked {
     pub place: Place,
     pub there: bool,

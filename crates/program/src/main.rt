@@ -1,4 +1,6 @@
 // The checking program: standard input, and the line that the library `line` makes of it.
+#![tactic(auto)]
+
 use libc::{STDIN_FILENO, STDOUT_FILENO};
 use line::program_line;
 

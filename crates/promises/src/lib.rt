@@ -1,5 +1,7 @@
 // Demand 2 end to end, as code: functions that call the public entries one behind the other. What they promise follows from the entries'
 // contracts alone and the theorems of `directory`, which hold for any labelling.
+#![tactic(auto)]
+
 mod first;
 mod kept;
 

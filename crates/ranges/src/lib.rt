@@ -1,4 +1,6 @@
 // Ranges of bytes: laid over others, taken out, compared.
+#![tactic(auto)]
+
 ghost use Rattle.std.specs.Prelude.{◌≡◌, ◌+◌, ◌≤◌, eqb, length, take, drop};
 ghost use Rattle.paper.specs.Bytes as B;
 ghost use Rattle.paper.specs.Lists.{every};

@@ -1,5 +1,7 @@
 // The walk over a proof's paths: one reader for each check, opened at the first path, which goes forward from row to row. A lookup's
 // row is one path, a history's a run of paths of one kind.
+#![tactic(auto)]
+
 mod reader;
 
 ghost use Rattle.std.specs.Prelude.{◌≡◌, ◌≤◌};

@@ -7,7 +7,7 @@ ghost use Rattle.walks.specs.Walk.{walks};
 use rows::{Rows, row_after, row_at};
 use walks::Walk;
 
-#[derive(Drop)]
+#[derive(Clone, Copy)]
 pub struct Reader<'a> {
     pub proof: &'a [u8],
     pub at: usize,

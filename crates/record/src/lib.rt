@@ -1,6 +1,8 @@
 // The records of a table by their numbers: the one view through which everything above reads them. "A record has 168 bytes: name
 // length 1, name 64, version 2, epoch 4, key length 1, key 64, opening 32, unused bytes zero." Nothing is copied but numbers and
 // openings.
+#![tactic(auto)]
+
 ghost use Rattle.std.specs.Prelude.{◌≡◌, ◌+◌, ◌*◌, ◌≤◌, length, take, drop, get_or};
 ghost use Rattle.ranges.specs.Part.{PartAt};
 ghost use Rattle.record.specs.Places.{record_at, Stands};

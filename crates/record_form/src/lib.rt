@@ -1,4 +1,6 @@
 // The layout of a record, tested in the table.
+#![tactic(auto)]
+
 ghost use Rattle.std.specs.Prelude.{◌≡◌, suc, ◌+◌, ◌*◌, ◌≤◌, length, drop};
 ghost use Rattle.paper.specs.Layout.{in_layout};
 ghost use Rattle.paper.specs.Table.{filled_field, record_field};

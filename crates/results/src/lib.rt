@@ -1,4 +1,6 @@
 // The answers as C has them: document 01's number, 0 where nothing was refused, and the answer's values, 0 where it has none.
+#![tactic(auto)]
+
 mod handset;
 mod server;
 
@@ -7,7 +9,7 @@ pub use server::{publish_result, start_result, write_result};
 
 // What a lookup check answers; the key is that part of the proof.
 #[repr(C)]
-#[derive(Drop)]
+#[derive(Clone, Copy)]
 pub struct Lookup {
     pub number: u32,
     pub version: u32,
@@ -19,7 +21,7 @@ pub struct Lookup {
 
 // What a history check answers.
 #[repr(C)]
-#[derive(Drop)]
+#[derive(Clone, Copy)]
 pub struct History {
     pub number: u32,
     pub versions: u32,
@@ -29,7 +31,7 @@ pub struct History {
 
 // What an audit check answers.
 #[repr(C)]
-#[derive(Drop)]
+#[derive(Clone, Copy)]
 pub struct Audit {
     pub number: u32,
     pub old_epoch: u32,
@@ -39,7 +41,7 @@ pub struct Audit {
 
 // What start and publish answer, with the state: the new one, or the one that was given.
 #[repr(C)]
-#[derive(Drop)]
+#[derive(Clone, Copy)]
 pub struct Published {
     pub number: u32,
     pub count: u32,
@@ -48,7 +50,7 @@ pub struct Published {
 
 // What a writer answers, with the state as it was given.
 #[repr(C)]
-#[derive(Drop)]
+#[derive(Clone, Copy)]
 pub struct Written {
     pub number: u32,
     pub count: u32,
@@ -58,7 +60,7 @@ pub struct Written {
 
 // A SHA-256 digest.
 #[repr(C)]
-#[derive(Drop)]
+#[derive(Clone, Copy)]
 pub struct Digest {
     pub bytes: [u8; 32],
 }

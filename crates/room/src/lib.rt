@@ -1,4 +1,6 @@
 // "8 ROOM": whether a proof fits its output. It is a front of one size, and behind it keys and paths, or an audit's two lists.
+#![tactic(auto)]
+
 ghost use Rattle.std.specs.Prelude.{◌≡◌, ◌+◌, leb};
 
 // Whether three parts fit, one behind the other; their sum may be past what a usize has.

@@ -1,5 +1,7 @@
 // The rows of a proof's paths in their order. A row is a run of paths of one kind: a lookup has up to three, of one path each, and a
 // history six.
+#![tactic(auto)]
+
 mod history;
 mod lookup;
 
@@ -14,14 +16,14 @@ use runs::past;
 use walks::Walk;
 
 // Whose rows they are.
-#[derive(Drop)]
+#[derive(Clone, Copy)]
 pub enum Check {
     Lookup,
     History,
 }
 
 // What a check's rows go by: a lookup's version or a history's n, the head's epoch, and the place of the first path.
-#[derive(Drop)]
+#[derive(Clone, Copy)]
 pub struct Rows {
     pub check: Check,
     pub number: u16,

@@ -1,5 +1,7 @@
 // SHA-256 as FIPS 180-4 defines it, of a lent slice of bytes: the whole blocks of the message, then
 // the one or two blocks in which its padding ends, made in a local array.
+#![tactic(auto)]
+
 mod blocks;
 
 ghost use Rattle.std.specs.Prelude.{◌≡◌, ◌+◌, ◌-◌, ◌*◌, ◌/◌, ◌%◌, ◌^◌, ◌<◌, ◌≤◌, length};

@@ -1,6 +1,8 @@
 // Digests to hold against another SHA-256, one line of hexadecimal digits each: examples that NIST
 // published, then a message of every length from 0 to 300 bytes. The other's lines are the file
 // stdout; tests/sha256_stdout.py makes it.
+#![tactic(auto)]
+
 ghost use Rattle.std.specs.Prelude.{◌≡◌, ◌≤◌, length};
 
 use libc::STDOUT_FILENO;

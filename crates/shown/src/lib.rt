@@ -1,6 +1,8 @@
 // What a lookup check and a history check share. Each is lent a head, a name and the bytes of a proof. The layout of the whole
 // proof is tested before anything is hashed; then its paths are walked (`walks`), each for what is asked of a place.
 // A proof is never copied: what is known of it are places in it and numbers.
+#![tactic(auto)]
+
 mod asks;
 mod items;
 mod layout;
@@ -24,7 +26,7 @@ pub const ROOT: u8 = 4;
 pub const RULE: u8 = 5;
 
 // What the 108 bytes of header, head and number say, where they are in layout: the number, and the head's epoch.
-#[derive(Drop)]
+#[derive(Clone, Copy)]
 pub enum Front {
     Read { number: u16, epoch: u32 },
     Bad,
@@ -32,7 +34,7 @@ pub enum Front {
 
 // What a path is asked to show of a place: that its label is not there; or that it is, with a commitment, at an epoch from
 // `low` to `high`.
-#[derive(Drop)]
+#[derive(Clone, Copy)]
 pub struct Asked {
     pub place: Place,
     pub there: bool,

@@ -1,4 +1,6 @@
 // "Starting a directory tests 1 only and writes head 0; it has no records."
+#![tactic(auto)]
+
 ghost use Rattle.std.specs.Prelude.{◌≡◌, []};
 ghost use Rattle.paper.specs.Labelling.{plain};
 ghost use Rattle.paper.specs.Tree.{root_digest};

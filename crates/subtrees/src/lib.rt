@@ -4,6 +4,8 @@
 //
 // Each fork on the way to a new leaf scans its leaves for one: with labels that are digests n leaves cost O(n log n) in all. The way is
 // walked twice, first for the count, which stands before the records.
+#![tactic(auto)]
+
 mod count;
 mod write;
 

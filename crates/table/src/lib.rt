@@ -1,5 +1,7 @@
 // Whether tables are in shape, and an index over the names of their records, so that the test is not quadratic. The counted
 // records are taken in order: each is tested against those before it and then entered into the index.
+#![tactic(auto)]
+
 mod follow;
 mod index;
 

@@ -1,4 +1,6 @@
 // What a writer tests before it grows a tree: "1 INPUT", "11 TABLE" and "10 EPOCH".
+#![tactic(auto)]
+
 ghost use Rattle.std.specs.Prelude.{◌≡◌};
 ghost use Rattle.tested.specs.Tested.{input_good, Tested};
 

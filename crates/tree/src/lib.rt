@@ -3,6 +3,8 @@
 // does its slot. A path is then written without hashing anything.
 //
 // Each side of the root has as many slots as leaves, of which the last is spare.
+#![tactic(auto)]
+
 ghost use Rattle.std.specs.Prelude.{◌≡◌, [], ◌++◌, ◌+◌, ◌-◌, ◌*◌, ◌≤◌, length, take, drop};
 ghost use Rattle.paper.specs.Bytes.{pasted};
 ghost use Rattle.paper.specs.Strings as S;
@@ -17,7 +19,7 @@ use ranges::{digest_at, put};
 use words::read32;
 
 // The root's two sides over n leaves: the first `split` leaves are on the left, the others on the right, and each side has a digest.
-#[derive(Drop)]
+#[derive(Clone, Copy)]
 pub struct Sides {
     pub split: usize,
     pub left: [u8; 32],
@@ -25,7 +27,7 @@ pub struct Sides {
 }
 
 // Where leaves part: the length of their longest common prefix, and how many of them go left behind it.
-#[derive(Drop)]
+#[derive(Clone, Copy)]
 pub struct Fork {
     pub length: usize,
     pub left: usize,

@@ -1,5 +1,7 @@
 // A label's way down a stored tree: how many steps it has, and how it ends. From these two follows how many bytes the path has. The way
 // goes down the side of the label's bit while the label has the node's prefix.
+#![tactic(auto)]
+
 ghost use Rattle.std.specs.Prelude.{◌≡◌, ◌+◌, ◌≤◌, length, take};
 ghost use Rattle.paper.specs.Bits.{starts, bits_of};
 ghost use Rattle.paper.specs.Tree.{key, build, root};
@@ -15,7 +17,7 @@ use ranges::same;
 use tree::{fork_of, label_of, split};
 
 // The number of a path's steps, and the kind of its end: 0 this leaf, 1 another leaf, 2 another inner node, 3 nothing.
-#[derive(Drop)]
+#[derive(Clone, Copy)]
 pub struct Way {
     pub steps: usize,
     pub kind: u8,

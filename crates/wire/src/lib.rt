@@ -1,5 +1,7 @@
 // Requests to the driver program, as docs/DRIVER.md describes them. No contract can say which bytes a call of the operating system
 // reads. So a contract here says how many: a field's bytes lie in the buffer that is lent for them, and within the request.
+#![tactic(auto)]
+
 mod read;
 
 pub use read::{
@@ -7,35 +9,35 @@ pub use read::{
 };
 
 // A request that is being read: whether it was readable so far, and how many of its bytes are left.
-#[derive(Drop)]
+#[derive(Clone, Copy)]
 pub struct Request {
     pub good: bool,
     pub left: usize,
 }
 
 // What stands next in the input: its end, or a request with the number of its call.
-#[derive(Drop)]
+#[derive(Clone, Copy)]
 pub enum Next {
     End,
     Call(u8, Request),
 }
 
 // A field: how many bytes of it stand at the start of the lent buffer, and the rest of its request.
-#[derive(Drop)]
+#[derive(Clone, Copy)]
 pub struct Field {
     pub length: usize,
     pub rest: Request,
 }
 
 // A field of two bytes that is a number, and the rest of its request.
-#[derive(Drop)]
+#[derive(Clone, Copy)]
 pub struct Number16 {
     pub value: u16,
     pub rest: Request,
 }
 
 // A field of four bytes that is a number, and the rest of its request.
-#[derive(Drop)]
+#[derive(Clone, Copy)]
 pub struct Number32 {
     pub value: u32,
     pub rest: Request,

@@ -1,4 +1,6 @@
 // Numbers in bytes. "All stored numbers are big-endian." A number of four bytes is one of two bytes and, behind it, another.
+#![tactic(auto)]
+
 ghost use Rattle.std.specs.Prelude.{◌≡◌, ◌+◌, ◌≤◌, length, take, drop};
 ghost use Rattle.paper.specs.Bytes as B;
 

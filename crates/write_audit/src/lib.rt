@@ -1,5 +1,7 @@
 // The writer of audit proofs: "Writers test 1, 11, 10, 7, 8." Of the four trees that the step into an epoch speaks of, the two of the
 // epoch itself are grown and stored until their lists are written. The roots of the epoch before come out of the lists.
+#![tactic(auto)]
+
 mod trees;
 
 ghost use Rattle.std.specs.Prelude.{◌≡◌};

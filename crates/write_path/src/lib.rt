@@ -2,6 +2,8 @@
 // Siblings, and the digests of another inner node, are copied out of their slots: nothing is hashed.
 //
 // The way is walked twice, first for its length: the count of its steps stands before them.
+#![tactic(auto)]
+
 ghost use Rattle.std.specs.Prelude.{◌≡◌, cond, ◌+◌, ◌*◌, ◌-◌, ◌≤◌, length, take, drop};
 ghost use Rattle.paper.specs.Bits.{bits_of};
 ghost use Rattle.paper.specs.Tree.{build, root};

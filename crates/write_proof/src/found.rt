@@ -8,7 +8,7 @@ use own::latest;
 use record::version_at;
 
 // From which record on keys are written, and the last version.
-#[derive(Drop)]
+#[derive(Clone, Copy)]
 pub struct Found {
     pub from: usize,
     pub number: u16,

@@ -1,5 +1,7 @@
 // The writers of lookup and history proofs: "Writers test 1, 11, 10, 7, 8." A lookup and a history differ in their keys and in the
 // paths that they ask; all else is one. The two trees of the epoch are stored once, and nothing is hashed for a path but its label.
+#![tactic(auto)]
+
 mod before;
 mod found;
 mod judge;

@@ -1,5 +1,7 @@
 // The driver's calls of the three writers; docs/DRIVER.md has their fields and answers. Tables and name lie in the space; the proof is
 // written to the spare room, of which the request says how much is lent.
+#![tactic(auto)]
+
 ghost use Rattle.std.specs.Prelude.{◌≤◌};
 ghost use Rattle.wire.specs.Rooms.{Spacious, Roomy};
 ghost use Rattle.writer_calls.specs.Inside.{Inside};
@@ -56,7 +58,7 @@ fn write_step(records: &[u8], heads: &[u8], state: State, epoch: u32, out: &mut 
 }
 
 // How many bytes both tables have in the space, and the state. The bounds are 4,096 records and 65,536 heads, and there is room for one more of each.
-#[derive(Drop)]
+#[derive(Clone, Copy)]
 pub struct Tables {
     pub records: usize,
     pub heads: usize,

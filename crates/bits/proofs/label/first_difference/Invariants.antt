@@ -1,0 +1,24 @@
+-- `bits::label::first_difference` gives the first place at which the labels differ, or the shorter one's end.
+-- Invariants: no loop has gone past an end, and the bits before the place agree. Assumes nothing.
+use mathlib.Core.Path.{sym, ◌∙◌}
+use mathlib.Core.Logic.{⊎_elim}
+use Prim.Native.Nat.{◌+◌, ◌-◌, ◌*◌, ◌≤◌}
+use native.Mathlib.Omega.{arith}
+use borrow.Author.Rules.{rules}
+use borrow.Author.Tests.{eqb-true, eqb-false}
+use lib.ListN.{length}
+use Rattle.paper.specs.Bits.{bits_of}
+use Rattle.bits.proofs.Lcp.{Agree, agree-more, bits-same, bits-differ, first_difference-at}
+use Rattle.bits.proofs.label.first_difference.Given as goal
+
+abbrev pub invariant-loop-k : goal.invariant-loop-k
+invariant-loop-k l = (l.k ≤ 8) × Agree (bits_of l.a) (bits_of l.b) (l.i * 8 + l.k)
+
+abbrev pub decreases-loop-k : goal.decreases-loop-k
+decreases-loop-k l = 8 - l.k
+
+abbrev pub invariant-bytes : goal.invariant-bytes
+invariant-bytes l = (l.i ≤ 32) × (l.i ≤ length l.a) × (l.i ≤ length l.b) × Agree (bits_of l.a) (bits_of l.b) (l.i * 8)
+
+abbrev pub decreases-bytes : goal.decreases-bytes
+decreases-bytes l = 32 - l.i

@@ -1,0 +1,11 @@
+-- `block::schedule::first_words` meets its contract: its first t words are those of the definition. Assumes nothing.
+use Rattle.std.proofs.Common.{◌≡◌, ◌-◌, ◌≤◌, length, take, refl, arith, length-set, rules}
+use Rattle.fips.specs.Sha256 as S
+use Rattle.block.proofs.Turns.{early, schedule-turn, first_done}
+use Rattle.block.proofs.schedule.first_words.Given as goal
+
+abbrev pub invariant-loop-t : goal.invariant-loop-t
+invariant-loop-t l = (l.t ≤ 16) × (length l.w ≡ 64) × (take l.t l.w ≡ S.schedule l.b l.t)
+
+abbrev pub decreases-loop-t : goal.decreases-loop-t
+decreases-loop-t l = 16 - l.t

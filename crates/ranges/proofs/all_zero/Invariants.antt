@@ -1,0 +1,17 @@
+-- `ranges::all_zero`: the bytes passed were zero, so the rest decides.
+use borrow.Author.Rules.{rules}
+use native.Mathlib.Omega.{arith}
+use mathlib.Core.Path.{◌≡◌, refl, sym, ◌∙◌}
+use Prim.Native.Nat.{◌-◌, ◌≤◌}
+use lib.Dec.{eqb}
+use lib.ListN.{length, get_or, drop}
+use borrow.Author.Tests.{eq-eqb, ne_eqb}
+use Rattle.paper.specs.Lists.{every}
+use Rattle.ranges.proofs.Compare.{every-none, every-pass, every-fail}
+use Rattle.ranges.proofs.all_zero.Given as goal
+
+abbrev pub invariant-loop-i : goal.invariant-loop-i
+invariant-loop-i l = (l.i ≤ length l.s) × (l.i-end ≡ length l.s) × (every (λ b. eqb b 0) l.s ≡ every (λ b. eqb b 0) (drop l.i l.s))
+
+abbrev pub decreases-loop-i : goal.decreases-loop-i
+decreases-loop-i l = length l.s - l.i

@@ -1,0 +1,15 @@
+-- `sha256::blocks::blocks` meets its contract: the blocks still to come, from the hash value so far, give that of the whole. Assumes nothing.
+use mathlib.Core.Path.{◌≡◌, refl}
+use Prim.Native.Nat.{◌+◌, ◌≤◌, ◌-◌}
+use native.Mathlib.Omega.{arith}
+use lib.ListN.{length, drop}
+use borrow.Author.Rules.{rules}
+use Rattle.fips.specs.Sha256 as S
+use Rattle.sha256.proofs.Turns.{blocks-turn, blocks-done}
+use Rattle.sha256.proofs.blocks.blocks.Given as goal
+
+abbrev pub invariant-loop-at : goal.invariant-loop-at
+invariant-loop-at l = (l.at ≤ length l.m) × (S.hash l.r (drop l.at l.m) ≡ S.hash l.initial.r l.m)
+
+abbrev pub decreases-loop-at : goal.decreases-loop-at
+decreases-loop-at l = length l.m - l.at

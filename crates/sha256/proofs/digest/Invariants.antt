@@ -1,0 +1,16 @@
+-- `sha256::digest` meets its contract: its first i bytes are those of the definition. Assumes nothing.
+use mathlib.Core.Path.{◌≡◌, refl}
+use mathlib.Core.List.{◌∷◌, []}
+use Prim.Native.Nat.{◌≤◌, ◌-◌}
+use native.Mathlib.Omega.{arith}
+use lib.ListN.{length, take, length-set}
+use borrow.Author.Rules.{rules}
+use Rattle.fips.specs.Sha256 as S
+use Rattle.sha256.proofs.Bytes.{bytes, bytes-turn, bytes-done}
+use Rattle.sha256.proofs.digest.Given as goal
+
+abbrev pub invariant-loop-i : goal.invariant-loop-i
+invariant-loop-i l = (l.i ≤ 32) × (length l.d ≡ 32) × (take l.i l.d ≡ take l.i (bytes l.w))
+
+abbrev pub decreases-loop-i : goal.decreases-loop-i
+decreases-loop-i l = 32 - l.i
