@@ -8,4 +8,4 @@ use Rattle.audit_root.proofs.join.Goals as goal
 pub returns : goal.returns
 returns c =
     let a = c.args in
-    ap {B = Built} (λ d. record { digest = d; count = a.t3.count + a.t4.count + 1 }) c.inner.ensures
+    ap {B = Built} (λ d. record { digest = d; count = a.left.count + a.right.count + 1 }) c.inner.ensures
