@@ -23,7 +23,7 @@ returns-then-n-lt1 c =
     let s = c.args.s.now in
     let at = c.args.at in
     let w = bytewise s c.type_inv.s in
-    sym (elim c.then-n-lt1.branch [ then-n-lt1-via-then-n-lt1 w ↦ item-range s at w (omega arith) (inl (omega arith)) | then-n-lt1-via-else-n-lt1+then-n-gt64 w ↦ item-range s at w (omega arith) (inr (omega (arith, ltb-true))) | then-n-lt1-via-else-n-lt1+else-n-gt64+then-s-at w ↦ item-cut s at w (omega arith) (omega arith) (omega (arith, ltb-false)) (omega (arith, ltb-true)) ])
+    sym (elim c.then-n-lt1.branch [ then-n-lt1-via-then-n-lt1 u ↦ item-range s at w (omega arith) (inl (omega arith)) | then-n-lt1-via-else-n-lt1+then-n-gt64 u ↦ item-range s at w (omega arith) (inr (omega (arith, ltb-true))) | then-n-lt1-via-else-n-lt1+else-n-gt64+then-s-at u ↦ item-cut s at w (omega arith) (omega arith) (omega (arith, ltb-false)) (omega (arith, ltb-true)) ])
 
 pub overflow_add-result-2 : goal.overflow_add-result-2
 overflow_add-result-2 c = omega (arith, ltb-false)
