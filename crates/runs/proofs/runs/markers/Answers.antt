@@ -25,7 +25,7 @@ overflow_sub-j c = let p = shifts c in omega arith
 
 pub take_path-taken-requires : goal.take_path-taken-requires
 take_path-taken-requires c =
-    going-ready c.args.s.now c.args.name.now (ask_marker c.args.s.now c.args.first) 0 c.args.marks c.args.at _ c.loop-j.j c.loop-j.here c.loop-j.true c.loop-j.invariant c.requires.0.front c.requires.0.short (omega arith)
+    going-ready c.args.s.now c.args.name.now (ask_marker c.args.s.now c.args.first) 0 c.args.marks c.args.at _ c.loop-j.j c.loop-j.here c.loop-j.taken c.loop-j.invariant c.requires.0.front c.requires.0.short (omega arith)
 
 pub loop-j-preserved : goal.loop-j-preserved
 loop-j-preserved c =
@@ -35,10 +35,10 @@ loop-j-preserved c =
     let q = shifts (goal.at.loop-j-preserved c).In-loop-j in
     let u : 1 * 2 ^ j % 2 ^ 64 - 1 + 1 ≡ 2 ^ j = omega arith in
     let e : c.epoch_behind-e.result ≡ epoch_from s a.first (2 ^ j) = c.epoch_behind-e.ensures ∙ ap (epoch_from s a.first) u in
-    going_on s a.name.now (ask_marker s a.first) 0 a.marks a.at _ j c.loop-j.here c.loop-j.true c.loop-j.invariant (bytewise s c.type_inv.s)
+    going_on s a.name.now (ask_marker s a.first) 0 a.marks a.at _ j c.loop-j.here c.loop-j.taken c.loop-j.invariant (bytewise s c.type_inv.s)
     c.present.result c.take_path-taken.result c.path_after-here.result (omega arith) (c.present.ensures ∙ rw e) c.take_path-taken.ensures c.path_after-here.ensures
 
 pub returns : goal.returns
 returns c =
     let a = c.args in
-    going-ends a.s.now a.name.now (ask_marker a.s.now a.first) 0 a.marks a.at _ c.loop-j.j c.loop-j.here c.loop-j.true c.loop-j.invariant (omega arith)
+    going-ends a.s.now a.name.now (ask_marker a.s.now a.first) 0 a.marks a.at _ c.loop-j.j c.loop-j.here c.loop-j.taken c.loop-j.invariant (omega arith)

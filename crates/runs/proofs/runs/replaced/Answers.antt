@@ -18,14 +18,14 @@ loop-i-init c =
 
 pub take_path-taken-requires : goal.take_path-taken-requires
 take_path-taken-requires c =
-    going-ready c.args.s.now c.args.name.now (ask_replaced c.args.s.now c.args.first) 1 c.args.n c.args.at _ c.loop-i.i c.loop-i.here c.loop-i.true c.loop-i.invariant.0 c.requires.front c.requires.short (omega arith)
+    going-ready c.args.s.now c.args.name.now (ask_replaced c.args.s.now c.args.first) 1 c.args.n c.args.at _ c.loop-i.i c.loop-i.here c.loop-i.taken c.loop-i.invariant.0 c.requires.front c.requires.short (omega arith)
 
 pub loop-i-preserved : goal.loop-i-preserved
 loop-i-preserved c =
     let a = c.args in
     let s = a.s.now in
     let e = leaf-epoch s a.first c.loop-i.i c.loop-i.later c.leaf_at-leaf.result c.loop-i.invariant.1 c.leaf_at-leaf.ensures in (
-      going_on s a.name.now (ask_replaced s a.first) 1 a.n a.at _ c.loop-i.i c.loop-i.here c.loop-i.true c.loop-i.invariant.0 (bytewise s c.type_inv.s)
+      going_on s a.name.now (ask_replaced s a.first) 1 a.n a.at _ c.loop-i.i c.loop-i.here c.loop-i.taken c.loop-i.invariant.0 (bytewise s c.type_inv.s)
           c.present.result c.take_path-taken.result c.path_after-here.result (omega arith) (c.present.ensures ∙ rw e) c.take_path-taken.ensures c.path_after-here.ensures,
       leaf-next s a.first c.loop-i.i c.loop-i.later c.leaf_at-leaf.result c.loop-i.invariant.1 c.leaf_at-leaf.ensures,
     )
@@ -33,4 +33,4 @@ loop-i-preserved c =
 pub returns : goal.returns
 returns c =
     let a = c.args in
-    going-ends a.s.now a.name.now (ask_replaced a.s.now a.first) 1 a.n a.at _ c.loop-i.i c.loop-i.here c.loop-i.true c.loop-i.invariant.0 (omega arith)
+    going-ends a.s.now a.name.now (ask_replaced a.s.now a.first) 1 a.n a.at _ c.loop-i.i c.loop-i.here c.loop-i.taken c.loop-i.invariant.0 (omega arith)

@@ -36,7 +36,7 @@ commitment_at-requires c = stands c
 
 pub take_path-taken-requires : goal.take_path-taken-requires
 take_path-taken-requires c =
-    going-ready c.args.s.now c.args.name.now (ask_version c.args.s.now c.args.first c.args.epoch) 1 (c.args.n + 1) c.args.first _ c.loop-i.i c.loop-i.here c.loop-i.true c.loop-i.invariant.2
+    going-ready c.args.s.now c.args.name.now (ask_version c.args.s.now c.args.first c.args.epoch) 1 (c.args.n + 1) c.args.first _ c.loop-i.i c.loop-i.here c.loop-i.taken c.loop-i.invariant.2
     c.requires.ahead.front c.requires.ahead.short (omega (arith, c.loop-i.invariant.1))
 
 pub bounds-s-item : goal.bounds-s-item
@@ -60,14 +60,14 @@ loop-i-preserved c =
     let e : i - 1 + 1 ≡ i + 1 - 1 = omega (arith, inv.0) in (
       omega arith,
       inv.1,
-      going_on s a.name.now (ask_version s a.first a.epoch) 1 (a.n + 1) a.first _ i c.loop-i.here c.loop-i.true inv.2 (bytewise s c.shared_slice_known-1.given)
+      going_on s a.name.now (ask_version s a.first a.epoch) 1 (a.n + 1) a.first _ i c.loop-i.here c.loop-i.taken inv.2 (bytewise s c.shared_slice_known-1.given)
           c.present-asked.result c.take_path-taken.result c.leaf_at-leaf.result.next (omega (arith, inv.1)) (c.present-asked.ensures ∙ rw (c.commitment_at.ensures, inv.3, inv.5)) c.take_path-taken.ensures (ap (λ x. x.next) c.leaf_at-leaf.ensures),
       item-next s (i - 1) c.loop-i.item inv.3 ∙ ap (item_at s) e,
       leaf-next s a.first (i - 1) c.loop-i.here c.leaf_at-leaf.result inv.4 c.leaf_at-leaf.ensures ∙ ap (place_at s a.first) e,
-      ap (λ c.before.before.before.before.before.before.before.before.before. c.before.before.before.before.before.before.before.before.before + 1) (leaf-epoch s a.first (i - 1) c.loop-i.here c.leaf_at-leaf.result inv.4 c.leaf_at-leaf.ensures ∙ ap (epoch_from s a.first) e),
+      ap (λ k. k + 1) (leaf-epoch s a.first (i - 1) c.loop-i.here c.leaf_at-leaf.result inv.4 c.leaf_at-leaf.ensures ∙ ap (epoch_from s a.first) e),
     )
 
 pub returns : goal.returns
 returns c =
     let a = c.args in
-    going-ends a.s.now a.name.now (ask_version a.s.now a.first a.epoch) 1 (a.n + 1) a.first _ c.loop-i.i c.loop-i.here c.loop-i.true c.loop-i.invariant.2 (omega (arith, c.loop-i.invariant.1))
+    going-ends a.s.now a.name.now (ask_version a.s.now a.first a.epoch) 1 (a.n + 1) a.first _ c.loop-i.i c.loop-i.here c.loop-i.taken c.loop-i.invariant.2 (omega (arith, c.loop-i.invariant.1))
