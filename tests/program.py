@@ -96,7 +96,7 @@ def unwritable(words):
 
 
 def main():
-    words = sys.argv[1:] or runs.command(runs.built("program"))
+    words = sys.argv[1:] or [runs.built("program")]
     wrong, kinds = 0, collections.Counter()
     for group in (answered, unreadable, unending, unwritable):
         for how, seen, expected in group(words):
