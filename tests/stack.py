@@ -47,7 +47,7 @@ for line in text.split("\n"):
         if pages:
             # the loop's own step, a page, is counted above
             frames[name] += int(pages.group(1), 16) - PAGE
-        call = re.search(r"\t(?:call|jmp) +[0-9a-f]+ <([^+>]*)>", line)
+        call = re.search(r"\t(?:call|jmp) +[0-9a-f]+ <([^+]*)>$", line)
         if call:
             calls[name].add(call.group(1))
 
