@@ -4,11 +4,6 @@ use native.Mathlib.Omega.{arith}
 use Rattle.record.specs.Places.{record_at}
 use Rattle.gather.proofs.Row.{gain-none}
 use Rattle.gather.proofs.Leaves.{by-later, by-then}
-use Rattle.gather.proofs.add.Reads as reads
-use Rattle.gather.proofs.add.Lts as lts
-use Rattle.gather.proofs.add_all.Reads as add-all-reads
-use Rattle.gather.proofs.add_old.Reads as add-old-reads
-use Rattle.record.proofs.epoch_at.Reads as epoch-at-reads
 use Rattle.gather.proofs.add.Goals as goal
 
 -- src/lib.rt:71:9

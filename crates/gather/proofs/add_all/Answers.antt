@@ -14,23 +14,8 @@ use Rattle.gather.specs.Gathered.{Gained}
 use Rattle.bits.proofs.Powers.{marker-few, marker-shift}
 use Rattle.gather.proofs.Row.{gain-more}
 use Rattle.gather.proofs.Leaves.{name-few, key-few, all-unmarked, all-marked, version_leaf, marker_leaf}
-use Rattle.gather.proofs.add_all.Reads as reads
-use Rattle.gather.proofs.add_all.Lts as lts
-use Rattle.bits.proofs.marker_of.Reads as marker-of-reads
-use Rattle.gather.proofs.put_leaf.Reads as put-leaf-reads
-use Rattle.record.proofs.epoch_at.Reads as epoch-at-reads
-use Rattle.record.proofs.key_at.Reads as key-at-reads
-use Rattle.record.proofs.name_at.Reads as name-at-reads
-use Rattle.record.proofs.opening_at.Reads as opening-at-reads
-use Rattle.record.proofs.version_at.Reads as version-at-reads
-use Rattle.labels.proofs.commitment.Reads as commitment-reads
-use Rattle.labels.proofs.label.Reads as label-reads
 use Rattle.gather.proofs.add_all.Goals as goal
 use Rattle.gather.proofs.add_all.Goals.{After-marker_of-j}
-
--- src/lib.rt:44:19
-opening-at-requires : tie.Need-opening-at-requires
-opening-at-requires c κs = search rules
 
 -- src/lib.rt:45:30
 pub label-requires : goal.label-requires

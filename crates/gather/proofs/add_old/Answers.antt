@@ -10,13 +10,6 @@ use Rattle.paper.specs.Strings.{leaf}
 use Rattle.record.specs.Places.{record_at}
 use Rattle.gather.proofs.Row.{gain-none}
 use Rattle.gather.proofs.Leaves.{name-few, old-none, old-one, replaced_leaf}
-use Rattle.gather.proofs.add_old.Reads as reads
-use Rattle.gather.proofs.add_old.Lts as lts
-use Rattle.gather.proofs.put_leaf.Reads as put-leaf-reads
-use Rattle.record.proofs.epoch_at.Reads as epoch-at-reads
-use Rattle.record.proofs.name_at.Reads as name-at-reads
-use Rattle.record.proofs.version_at.Reads as version-at-reads
-use Rattle.labels.proofs.label.Reads as label-reads
 use Rattle.gather.proofs.add_old.Goals as goal
 
 -- src/lib.rt:60:9

@@ -9,9 +9,6 @@ use Rattle.record.specs.Places.{record_at, records_in}
 use Rattle.gather.specs.Gathered.{leaves_by, Gained}
 use Rattle.gather.proofs.Row.{gain-none, gain-more}
 use Rattle.gather.proofs.Leaves.{by-none, by-snoc, few-leaves}
-use Rattle.gather.proofs.gather.Reads as reads
-use Rattle.gather.proofs.gather.Lts as lts
-use Rattle.gather.proofs.add.Reads as add_reads
 use Rattle.gather.proofs.gather.Given as goal
 
 abbrev pub invariant-loop-i : goal.invariant-loop-i

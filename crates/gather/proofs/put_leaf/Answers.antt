@@ -5,10 +5,6 @@ use mathlib.Core.Path.{◌≡◌, ap, ◌∙◌}
 use Prim.Native.Nat.{◌+◌, ◌*◌}
 use Rattle.paper.specs.Bytes.{be, pasted}
 use Rattle.gather.proofs.Row.{gain-one}
-use Rattle.gather.proofs.put_leaf.Reads as reads
-use Rattle.gather.proofs.put_leaf.Lts as lts
-use Rattle.ranges.proofs.put.Reads as put_reads
-use Rattle.words.proofs.write32.Reads as write32-reads
 use Rattle.gather.proofs.put_leaf.Goals as goal
 
 -- src/lib.rt:24:1
@@ -20,4 +16,4 @@ returns c =
     let n = c.args.n in
     let all : third.new.dst ≡ pasted (pasted (pasted c.args.row.now (n * 68) c.args.label) (n * 68 + 32) c.args.commitment) (n * 68 + 64) (be 4 c.args.epoch) =
     third.ensures ∙ ap (λ o. pasted o (n * 68 + 64) (be 4 c.args.epoch)) (second.ensures ∙ ap (λ o. pasted o (n * 68 + 32) c.args.commitment) first.ensures) in
-    rw all (gain-one c.args.row.now n c.args.label c.args.commitment c.args.epoch (search rules) (search rules) (omega (arith, c.before.before.before.before.before.before.before.before.before.before.before.before.before.before.before.fits.epoch)) c.requires)
+    rw all (gain-one c.args.row.now n c.args.label c.args.commitment c.args.epoch (search rules) (search rules) (omega (arith, c.ranges.epoch)) c.requires)

@@ -6,8 +6,7 @@ use mathlib.Core.Path.{◌≡◌, sym, ◌∙◌}
 use mathlib.Core.Logic.{by_cases}
 use Prim.Native.Nat.{ℕ, ◌+◌, ◌-◌, ◌≤◌}
 use lib.Dec.{leb}
-use Rattle.room.proofs.has_room.Statement.{statement}
-use Rattle.room.proofs.has_room.Tie as tie
+use Rattle.room.proofs.has_room.Goals as goal
 
 -- what is left decides
 left_over : (room front first second : ℕ) → front ≤ room → first ≤ room - front → leb second (room - front - first) ≡ leb (front + first + second) room
@@ -15,20 +14,17 @@ left_over room front first second h k = by_cases (dec_le second (room - front - 
     (λ l. le-leb second (room - front - first) l ∙ sym (le-leb (front + first + second) room (omega arith)))
     (λ l. lt-leb second (room - front - first) (omega arith) ∙ sym (lt-leb (front + first + second) room (omega arith)))
 
-returns : tie.Need-returns
+pub returns-then-room-front : goal.returns-then-room-front
+returns-then-room-front c =
+    let a = c.args in
+    sym (lt-leb (a.front + a.first + a.second) a.room (omega (arith, c.if-room-front.true)))
+
+pub returns-then-left-first : goal.returns-then-left-first
+returns-then-left-first c =
+    let a = c.args in
+    sym (lt-leb (a.front + a.first + a.second) a.room (omega (arith, c.if-left-first.true)))
+
+pub returns : goal.returns
 returns c =
-    let a = c.before.args in
-    sym (lt-leb (a.front + a.first + a.second) a.room (omega (arith, c.if1.true)))
-
-returns-2 : tie.Need-returns-2
-returns-2 c =
-    let a = c.before.before.args in
-    sym (lt-leb (a.front + a.first + a.second) a.room (omega (arith, c.if2.true)))
-
-returns-3 : tie.Need-returns-3
-returns-3 c =
-    let a = c.before.before.args in
-    left_over a.room a.front a.first a.second (omega (arith, c.before.if1.false)) (omega (arith, c.if2.false))
-
-pub has-room-spec : {M : Type 1} → statement M
-has-room-spec = tie.close (tie.spec returns returns-2 returns-3)
+    let a = c.args in
+    left_over a.room a.front a.first a.second (omega (arith, c.if-room-front.false)) (omega (arith, c.if-left-first.false))
