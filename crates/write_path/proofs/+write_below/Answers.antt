@@ -147,7 +147,7 @@ turned t c b e =
     let begun = sym c.has_prefix.ensures ∙ not-false _ c.if-not-has_prefix.false-raw in
     turn-bytes (label t (goal.at.After-label_bit-right t c).After-fork_of-fork) _ _ _ _ (cut t (goal.at.After-label_bit-right t c).After-fork_of-fork).tree (bits t (goal.at.After-label_bit-right t c).After-fork_of-fork) (size t (goal.at.After-label_bit-right t c).After-fork_of-fork) begun b (sym c.label_bit-right.ensures ∙ e)
 
-sibling : (w : After-fork_of-fork t) (b : Bool) → take 32 (drop (cond b ((left t w - 1) * 64) ((left t w - 1) * 64 + 32)) w.args.slots.now) ≡ digest (top (cond b (low t w) (high t w)))
+sibling : (t : ℕ) (w : After-fork_of-fork t) (b : Bool) → take 32 (drop (cond b ((left t w - 1) * 64) ((left t w - 1) * 64 + 32)) w.args.slots.now) ≡ digest (top (cond b (low t w) (high t w)))
 sibling t w true = low-digest w.args.n w.args.from w.args.s.now (bits t w) (left t w) w.requires.0.sorted (cut t w) w.args.slots.now w.requires.1
 sibling t w false = high-digest w.args.n w.args.from w.args.s.now (bits t w) (left t w) w.requires.0.sorted (cut t w) w.args.slots.now w.requires.1
 
@@ -185,8 +185,8 @@ overflow_add-k t c = let h = cut t (goal.at.overflow_add-k t c).After-fork_of-fo
 pub slice_bounds-write_below-count-then-right : goal.slice_bounds-write_below-count-then-right
 slice_bounds-write_below-count-then-right t c = let h = cut t (goal.at.slice_bounds-write_below-count-then-right t c).After-fork_of-fork in omega (arith, h.small, h.least, h.less, c.requires.0.sorted.size, slotted t (goal.at.slice_bounds-write_below-count-then-right t c).After-fork_of-fork)
 
--- LOST part-write-below-start-2 : tie.Need-slice-bounds-write-below-start-2
--- part-write-below-start-2 c = let w = c.before.before.before.before.before.before.before.before.before.before.before in let h = cut w in omega (arith, h.small, h.least, h.less, (start w).requires.1.0.sorted.size, slotted w)
+pub slice_bounds-write_below-start-then-right : goal.slice_bounds-write_below-start-then-right
+slice_bounds-write_below-start-then-right t c = let h = cut t (goal.at.slice_bounds-write_below-start-then-right t c).After-fork_of-fork in omega (arith, h.small, h.least, h.less, c.requires.0.sorted.size, slotted t (goal.at.slice_bounds-write_below-start-then-right t c).After-fork_of-fork)
 
 pub write_below-requires : goal.write_below-requires
 write_below-requires t c =

@@ -70,8 +70,8 @@ overflow_sub-n c = let a = c.args in omega (arith, (parts a.n a.s.now a.slots.no
 pub slice_bounds-write_side-count-then-right : goal.slice_bounds-write_side-count-then-right
 slice_bounds-write_side-count-then-right c = let a = c.args in omega (arith, (parts a.n a.s.now a.slots.now a.sides c.requires.0 c.requires.1).most, reach a.n a.s.now a.slots.now a.sides c.requires.0 c.requires.1, c.requires.0.size)
 
--- LOST part-write-side-start-2 : tie.Need-slice-bounds-write-side-start-2
--- part-write-side-start-2 c = let d = c.before.before.before.before.before.before.before.before in let a = (start d).args in omega (arith, (parts a.n a.s.now a.slots.now a.sides (start d).requires.0 (start d).requires.1).most, reach a.n a.s.now a.slots.now a.sides (start d).requires.0 (start d).requires.1, (start d).requires.0.size)
+pub slice_bounds-write_side-start-then-right : goal.slice_bounds-write_side-start-then-right
+slice_bounds-write_side-start-then-right c = let a = c.args in omega (arith, (parts a.n a.s.now a.slots.now a.sides c.requires.0 c.requires.1).most, reach a.n a.s.now a.slots.now a.sides c.requires.0 c.requires.1, c.requires.0.size)
 
 pub write_side-requires : goal.write_side-requires
 write_side-requires c =
