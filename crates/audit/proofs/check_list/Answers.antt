@@ -1,5 +1,4 @@
 -- `audit::check_list`: the definition's three tests of a list, in their order, and the digests of its two roots.
-use borrow.Author.Rules.{rules}
 use native.Mathlib.Omega.{arith}
 use mathlib.Core.Path.{◌≡◌, sym, ap, ap₂, ◌∙◌}
 use mathlib.Core.Bool.{Bool, true, false, ◌&&◌}

@@ -45,5 +45,4 @@ returns-in-Refused c =
 
 pub returns-in-Passed : goal.returns-in-Passed
 returns-in-Passed c =
-    let more = c.more-1 in
-    c.check_old.ensures ∙ sym (all-passed c.args.proof.now c.args.digests _ (sym (told (goal.at.returns-in-Passed c).After-check_list) ∙ more.given.1))
+    c.check_old.ensures ∙ sym (all-passed c.args.proof.now c.args.digests _ (sym (told (goal.at.returns-in-Passed c).After-check_list) ∙ c.in-Passed.is))

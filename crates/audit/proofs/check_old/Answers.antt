@@ -38,6 +38,5 @@ returns-in-Refused c =
 
 pub returns-in-Passed : goal.returns-in-Passed
 returns-in-Passed c =
-    let more = c.more-1 in
-    ap₂ (λ x y. Answer.Accepted x y (c.args.digests + more.given.0.0)) c.read32.ensures c.read32-in-Passed.ensures
-    ∙ sym (old-passed c.args.proof.now c.args.digests _ (sym (told (goal.at.returns-in-Passed c).After-check_list) ∙ more.given.1))
+    ap₂ (λ x y. Answer.Accepted x y (c.args.digests + c.in-Passed.more)) c.read32.ensures c.read32-in-Passed.ensures
+    ∙ sym (old-passed c.args.proof.now c.args.digests _ (sym (told (goal.at.returns-in-Passed c).After-check_list) ∙ c.in-Passed.is))

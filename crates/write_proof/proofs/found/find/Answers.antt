@@ -14,5 +14,5 @@ pub returns : goal.returns
 returns c =
     let a = c.args in
     let from = c.from_of.ensures ∙ ap (from_by a.history) c.latest-at.ensures in
-    let number = c.number_of_lem.ensures ∙ ap (version_of a.records.now) c.latest-at.ensures in
+    let number = c.number_of.ensures ∙ ap (version_of a.records.now) c.latest-at.ensures in
     λ i. record { from = from i; number = number i }
