@@ -12,7 +12,7 @@ use Rattle.paper.specs.Numbers.{INPUT, FORM, HEAD}
 use Rattle.paper.specs.Bytes.{Bytes, Bytewise, same}
 use Rattle.paper.specs.Strings.{head_string}
 use Rattle.paper.specs.Labelling.{plain}
-use Rattle.paper.specs.Layout.{Read, got, parse}
+use Rattle.paper.specs.Layout.{got, parse}
 use Rattle.paper.specs.Fields.{is_name}
 use Rattle.paper.specs.Verdict.{verdict}
 use Rattle.paper.specs.Shows.{Proof, path_tests, proof_tests, input_tests}

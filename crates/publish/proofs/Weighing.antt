@@ -17,7 +17,6 @@ use Rattle.paper.specs.Layout.{got, in_layout, times, times_bytes, parse}
 use Rattle.paper.specs.Table.{Record, Update, record_field, update_field, records_within, heads_within, head_of, head_digest, counted}
 use Rattle.paper.specs.Publish.{new_record, once, unpublished, batch_within, publish}
 use Rattle.paper.specs.declared.State.{State}
-use Rattle.paper.specs.declared.PublishAnswer.TheVariants as P
 use Rattle.paper.proofs.Lists.{true-or-false, and_left, and_right, and_both, every-all, in-all, all_in, map-in}
 use Rattle.paper.proofs.Layouts.{times-lawful, parse-bytes}
 use Rattle.paper.proofs.Proofs.{record-lawful}

@@ -17,7 +17,7 @@ use Rattle.paper.specs.Labelling.{plain}
 use Rattle.paper.specs.Tree.{root, root_digest, side}
 use Rattle.paper.specs.Table.{heads_within, by_epoch}
 use Rattle.paper.specs.Verdict.{verdict}
-use Rattle.paper.specs.Publish.{Started, start}
+use Rattle.paper.specs.Publish.{start}
 use Rattle.paper.specs.declared.StartAnswer.TheVariants as S
 use Rattle.paper.proofs.Lists.{and_left, and_right}
 use Rattle.paper.proofs.Tree.{below_none}

@@ -1,10 +1,8 @@
 -- `audit::check_audit`: sizes, layout, heads, lists, in the definition's order.
-use borrow.Author.Rules.{rules}
 use native.Mathlib.Omega.{arith}
 use mathlib.Core.Path.{◌≡◌, sym, ap, ◌∙◌}
 use mathlib.Core.Bool.{true}
 use mathlib.Core.List.{[]}
-use borrow.Author.Tests.{not-true, not-false}
 use Rattle.paper.specs.Bytes.{Bytes, Bytewise}
 use Rattle.paper.specs.Layout.{got, parse, in_layout}
 use Rattle.paper.specs.Audit.{audit_field, audit_read}

@@ -1,5 +1,4 @@
 -- `audit::check_heads`: the definition's first three tests, in their order.
-use borrow.Author.Rules.{rules}
 use native.Mathlib.Omega.{arith}
 use mathlib.Core.Path.{◌≡◌, sym, ap, ◌∙◌}
 use mathlib.Core.Bool.{Bool}

@@ -1,5 +1,4 @@
 -- `audit::check_lists`: the list of *all*, and behind it the list of *old*.
-use borrow.Author.Rules.{rules}
 use native.Mathlib.Omega.{arith}
 use mathlib.Core.Path.{◌≡◌, sym, ap, ◌∙◌}
 use Rattle.paper.specs.Audit.{of_all}

@@ -1,5 +1,4 @@
 -- `audit::check_old`: the list of *old* stands behind that of *all*, and its digests are added.
-use borrow.Author.Rules.{rules}
 use native.Mathlib.Omega.{arith}
 use Rattle.paper.specs.declared.AuditAnswer.TheVariants as Answer
 use mathlib.Core.Path.{◌≡◌, sym, ap, ap₂, ◌∙◌}

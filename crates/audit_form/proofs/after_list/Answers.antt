@@ -1,5 +1,4 @@
 -- `audit_form::after_list`: a count in range, and behind it the walk over its records.
-use borrow.Author.Rules.{rules}
 use native.Mathlib.Omega.{arith}
 use mathlib.Core.Path.{sym, ap, ◌∙◌}
 use Prim.Native.Nat.{◌+◌}

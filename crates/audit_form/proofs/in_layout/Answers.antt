@@ -1,9 +1,7 @@
 -- `audit_form::in_layout`: the opening bytes, room for two heads, a list, and a list that ends the bytes.
-use borrow.Author.Rules.{rules}
 use native.Mathlib.Omega.{arith}
 use mathlib.Core.Path.{sym, ◌∙◌}
 use lib.Seq.{length-take-le}
-use borrow.Author.Tests.{not-true, not-false}
 use Rattle.paper.specs.Bytes.{Bytewise}
 use Rattle.ranges.proofs.Slices.{bytewise}
 use Rattle.audit_form.proofs.Form.{list-place, audit-short, audit-closed, audit-none, audit-ends}

@@ -1,5 +1,4 @@
 -- `audit_form::label_at`: the part has 32 bytes.
-use borrow.Author.Rules.{rules}
 use native.Mathlib.Omega.{arith}
 use mathlib.Core.Path.{◌≡◌, refl, ap}
 use Prim.Native.Nat.{◌+◌, ◌-◌}

@@ -1,5 +1,4 @@
 -- `audit_form::leaf_form`: the two tests are those of the layout; a commitment and an epoch are any bytes.
-use borrow.Author.Rules.{rules}
 use native.Mathlib.Omega.{arith}
 use mathlib.Core.Path.{◌≡◌, sym, ap, ◌∙◌}
 use Prim.Native.Nat.{◌+◌, ◌-◌}

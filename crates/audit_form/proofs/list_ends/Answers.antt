@@ -1,5 +1,4 @@
 -- `audit_form::list_ends`: the list ends where the bytes end, or there is no list.
-use borrow.Author.Rules.{rules}
 use mathlib.Core.Path.{sym, ◌∙◌}
 use Rattle.audit_form.proofs.Form.{list-none, list-end}
 use Rattle.audit_form.proofs.list_ends.Goals as goal

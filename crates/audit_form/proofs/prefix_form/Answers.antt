@@ -1,8 +1,7 @@
 -- `audit_form::prefix_form`: the range, and the bits past the prefix, which are zero if cutting them changes nothing.
-use borrow.Author.Rules.{rules}
 use native.Mathlib.Omega.{arith}
 use mathlib.Core.Path.{sym, ap₂, ◌∙◌}
-use mathlib.Core.Logic.{inl, inr, ⊎_elim}
+use mathlib.Core.Logic.{inl, inr}
 use Prim.Native.Nat.{◌+◌, ◌≤◌}
 use lib.ListN.{take, drop}
 use borrow.Author.Tests.{ltb-true, ltb-false}

@@ -1,5 +1,4 @@
 -- `audit_form::record_form`: the kind decides which fields stand behind it.
-use borrow.Author.Rules.{rules}
 use native.Mathlib.Omega.{arith}
 use Rattle.audit_form.proofs.Record.{record-short, record-leaf, record-opened, record-other}
 use mathlib.Core.Path.{sym, ◌∙◌}

@@ -1,5 +1,4 @@
 -- `audit_root::fork`: by the sides that hold a node.
-use borrow.Author.Rules.{rules}
 use borrow.Author.Tests.{eq-eqb, ne_eqb}
 use Rattle.audit_root.specs.Built.{forked}
 use Rattle.audit_root.proofs.fork.Goals as goal

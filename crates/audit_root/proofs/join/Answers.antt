@@ -1,5 +1,4 @@
 -- `audit_root::join`: the inner node's string, and the counts.
-use borrow.Author.Rules.{rules}
 use mathlib.Core.Path.{ap}
 use Prim.Native.Nat.{◌+◌}
 use Rattle.audit_root.specs.declared.Built.{Built}

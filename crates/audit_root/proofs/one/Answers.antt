@@ -1,7 +1,5 @@
 -- `audit_root::one`: a new leaf has no part in the old tree; any other record is its node.
-use borrow.Author.Rules.{rules}
 use mathlib.Core.Logic.{⊎_elim}
-use borrow.Author.Tests.{not-true, not-false}
 use Rattle.audit_root.proofs.Single.{one-skipped, one-grown}
 use mathlib.Core.Path.{◌≡◌, sym, ap, ◌∙◌}
 use mathlib.Core.Bool.{true}

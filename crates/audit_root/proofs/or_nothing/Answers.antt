@@ -1,5 +1,4 @@
 -- `audit_root::or_nothing`: by whether the side holds a node.
-use borrow.Author.Rules.{rules}
 use borrow.Author.Tests.{eq-eqb, ne_eqb}
 use Rattle.audit_root.specs.Built.{or_nothing}
 use mathlib.Core.Path.{ap}

@@ -1,5 +1,4 @@
 -- `audit_root::record_digest`: the parts of the string are the parts of the record.
-use borrow.Author.Rules.{rules}
 use mathlib.Core.Path.{◌∙◌}
 use Rattle.fips.specs.Sha256.{sha256}
 use Rattle.paper.specs.Strings.{leaf_string, inner_string}

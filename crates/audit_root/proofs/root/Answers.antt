@@ -1,5 +1,4 @@
 -- `audit_root::root`: the list is cut at the first bit, where `RootStep` says what the two sides come to.
-use borrow.Author.Rules.{rules}
 use native.Mathlib.Omega.{arith}
 use mathlib.Core.Path.{sym, ap, ◌∙◌, subst}
 use Rattle.paper.specs.Numbers.{wide}

@@ -1,5 +1,4 @@
 -- `audit_rules::commitment_rule`: in *all* any commitment will do.
-use borrow.Author.Rules.{rules}
 use native.Mathlib.Omega.{arith}
 use mathlib.Core.Path.{◌≡◌, ap, ◌∙◌}
 use Prim.Native.Nat.{◌+◌, ◌-◌}

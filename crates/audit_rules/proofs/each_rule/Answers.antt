@@ -3,8 +3,7 @@ use borrow.Author.Rules.{rules}
 use native.Mathlib.Omega.{arith}
 use native.Mathlib.Nat.{sub-zero}
 use mathlib.Core.Path.{◌≡◌, sym, ap, ◌∙◌}
-use Prim.Native.Nat.{suc, ◌+◌, ◌-◌, ◌*◌, ◌≤◌}
-use lib.ListN.{length}
+use Prim.Native.Nat.{suc, ◌+◌, ◌-◌}
 use borrow.Author.Tests.{not-true, not-false}
 use Rattle.audit_form.specs.Places.{records_at}
 use Rattle.paper.specs.Lists.{every}

@@ -2,8 +2,7 @@
 use borrow.Author.Rules.{rules}
 use native.Mathlib.Omega.{arith}
 use mathlib.Core.Path.{◌≡◌, sym, ap, ◌∙◌}
-use Prim.Native.Nat.{suc, ◌+◌, ◌-◌, ◌*◌, ◌≤◌}
-use lib.ListN.{length}
+use Prim.Native.Nat.{suc, ◌+◌, ◌-◌}
 use borrow.Author.Tests.{not-true, not-false}
 use Rattle.audit_form.specs.Places.{records_at}
 use Rattle.paper.specs.Audit.{in_order}

@@ -1,13 +1,9 @@
 -- `audit_rules::in-order`: the pairs passed were in order, so what is left decides.
-use borrow.Author.Rules.{rules}
-use native.Mathlib.Omega.{arith}
-use mathlib.Core.Path.{◌≡◌, sym, ap, ◌∙◌}
-use Prim.Native.Nat.{suc, ◌+◌, ◌-◌, ◌*◌, ◌≤◌}
+use mathlib.Core.Path.{◌≡◌}
+use Prim.Native.Nat.{◌+◌, ◌-◌, ◌*◌, ◌≤◌}
 use lib.ListN.{length}
-use borrow.Author.Tests.{not-true, not-false}
 use Rattle.audit_form.specs.Places.{records_at}
 use Rattle.paper.specs.Audit.{in_order}
-use Rattle.audit_rules.proofs.Rules.{order-few, order-more, order-stop}
 use Rattle.audit_rules.proofs.in_order.Given as goal
 
 abbrev pub invariant-loop : goal.invariant-loop

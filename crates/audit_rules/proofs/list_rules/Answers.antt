@@ -1,5 +1,4 @@
 -- `audit_rules::list_rules`: the order, and the rule of each.
-use borrow.Author.Rules.{rules}
 use mathlib.Core.Path.{sym, ◌∙◌}
 use Rattle.audit_rules.proofs.list_rules.Goals as goal
 

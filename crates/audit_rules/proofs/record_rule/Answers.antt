@@ -1,5 +1,4 @@
 -- `audit_rules::record_rule`: by the kind, with the commitment first.
-use borrow.Author.Rules.{rules}
 use mathlib.Core.Path.{sym, ◌∙◌}
 use borrow.Author.Tests.{le-leb, lt-leb, not-true, not-false}
 use Rattle.audit_rules.specs.Tree.{which_of}

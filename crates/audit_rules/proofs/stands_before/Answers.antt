@@ -1,5 +1,4 @@
 -- `audit_rules::stands_before`: the three tests are the definition's, of the bits behind what the labels share.
-use borrow.Author.Rules.{rules}
 use native.Mathlib.Omega.{arith}
 use mathlib.Core.Path.{sym, ap, ap₂, ◌∙◌}
 use lib.ListN.{take, get_or}

@@ -3,7 +3,6 @@ use borrow.Author.Rules.{rules}
 use native.Mathlib.Numerals.{add-one}
 use native.Mathlib.Omega.{arith}
 use mathlib.Core.Path.{◌≡◌, sym, ap, ap₂, ◌∙◌}
-use Prim.Native.Nat.{suc, ◌-◌, ◌≤◌}
 use Rattle.paper.specs.Bytes.{same}
 use Rattle.batch.specs.Places.{update_at, bears_from}
 use Rattle.batch.proofs.Places.{bears-none, bears-pass, bears-hit}

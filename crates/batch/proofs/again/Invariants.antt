@@ -1,12 +1,7 @@
 -- `batch::again`: none of the updates passed has the name, so the rest decides.
-use borrow.Author.Rules.{rules}
-use native.Mathlib.Numerals.{add-one}
-use native.Mathlib.Omega.{arith}
-use mathlib.Core.Path.{◌≡◌, sym, ap, ap₂, ◌∙◌}
+use mathlib.Core.Path.{◌≡◌}
 use Prim.Native.Nat.{suc, ◌-◌, ◌≤◌}
-use Rattle.paper.specs.Bytes.{same}
-use Rattle.batch.specs.Places.{update_at, bears_from}
-use Rattle.batch.proofs.Places.{bears-none, bears-pass, bears-hit}
+use Rattle.batch.specs.Places.{bears_from}
 use Rattle.batch.proofs.again.Given as goal
 
 abbrev pub invariant-loop-j : goal.invariant-loop-j

@@ -1,6 +1,4 @@
 -- `batch::in_form`: the tests are those of the layout; an opening is any bytes.
-use borrow.Author.Rules.{rules}
-use borrow.Author.Tests.{not-true, not-false}
 use mathlib.Core.Path.{◌≡◌, sym, ap, ◌∙◌}
 use mathlib.Core.Bool.{true}
 use Rattle.paper.specs.Bytes.{Bytewise}

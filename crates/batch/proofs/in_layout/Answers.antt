@@ -5,7 +5,7 @@ use borrow.Author.Tests.{not-true, not-false}
 use native.Mathlib.Omega.{arith}
 use mathlib.Core.Path.{◌≡◌, sym, ap, ◌∙◌}
 use mathlib.Core.Bool.{true}
-use Prim.Native.Nat.{ℕ, ◌-◌, ◌≤◌, ◌<◌}
+use Prim.Native.Nat.{ℕ, ◌<◌}
 use Rattle.paper.specs.Layout.{in_layout}
 use Rattle.ranges.proofs.Slices.{bytewise}
 use Rattle.batch.proofs.Form.{formed, batch-read, batch-bad}

@@ -1,5 +1,4 @@
 -- `batch::name_in`: the field is at its place.
-use borrow.Author.Rules.{rules}
 use mathlib.Core.Path.{refl}
 use Rattle.ranges.proofs.Part.{part-told}
 use Rattle.batch.proofs.Places.{name-part}

@@ -1,12 +1,7 @@
 -- `batch::no_name_twice`: no name of the updates passed is there again, so the rest decides.
 use borrow.Author.Rules.{rules}
 use native.Mathlib.Omega.{arith}
-use mathlib.Core.Path.{◌≡◌, refl, sym, ◌∙◌}
-use Prim.Native.Nat.{◌-◌, ◌≤◌}
-use lib.ListN.{drop}
-use Rattle.paper.specs.Labelling.{plain}
-use Rattle.paper.specs.Publish.{once}
-use Rattle.batch.specs.Places.{updates_in}
+use mathlib.Core.Path.{refl, sym, ◌∙◌}
 use Rattle.batch.proofs.Places.{once-end, once-pass, once-hit}
 use Rattle.batch.proofs.no_name_twice.Goals as goal
 

@@ -2,8 +2,6 @@
 use mathlib.Core.Path.{sym}
 use Rattle.paper.specs.Publish.{batch_within}
 use Rattle.bounds.proofs.Multiple.{no-multiple, multiple}
-use Rattle.bounds.proofs.batch_within.Reads as reads
-use Rattle.bounds.proofs.batch_within.Lts as lts
 use Rattle.bounds.proofs.batch_within.Goals as goal
 
 -- src/lib.rt:34:9

@@ -2,8 +2,6 @@
 use mathlib.Core.Path.{sym}
 use Rattle.paper.specs.Level.{entries_within}
 use Rattle.bounds.proofs.Multiple.{no-multiple, multiple}
-use Rattle.bounds.proofs.entries_within.Reads as reads
-use Rattle.bounds.proofs.entries_within.Lts as lts
 use Rattle.bounds.proofs.entries_within.Goals as goal
 
 pub returns-then-entries-ne0 : goal.returns-then-entries-ne0

@@ -6,8 +6,6 @@ use lib.ListN.{length}
 use borrow.Author.Tests.{le-leb, lt-leb}
 use Rattle.paper.specs.Table.{heads_within}
 use Rattle.bounds.proofs.Multiple.{no-multiple, multiple}
-use Rattle.bounds.proofs.heads_within.Reads as reads
-use Rattle.bounds.proofs.heads_within.Lts as lts
 use Rattle.bounds.proofs.heads_within.Goals as goal
 
 -- src/lib.rt:21:9

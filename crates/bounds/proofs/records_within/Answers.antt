@@ -2,8 +2,6 @@
 use mathlib.Core.Path.{sym}
 use Rattle.paper.specs.Table.{records_within}
 use Rattle.bounds.proofs.Multiple.{no-multiple, multiple}
-use Rattle.bounds.proofs.records_within.Reads as reads
-use Rattle.bounds.proofs.records_within.Lts as lts
 use Rattle.bounds.proofs.records_within.Goals as goal
 
 -- src/lib.rt:11:9

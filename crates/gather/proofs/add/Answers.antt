@@ -1,5 +1,4 @@
 -- `gather::add`: a record's leaves, unless it is later than the epoch.
-use borrow.Author.Rules.{rules}
 use native.Mathlib.Omega.{arith}
 use Rattle.record.specs.Places.{record_at}
 use Rattle.gather.proofs.Row.{gain-none}

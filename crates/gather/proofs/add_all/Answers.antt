@@ -1,5 +1,4 @@
 -- `gather::add_all`: the version's leaf, and the marker's where the version is a power of two.
-use borrow.Author.Rules.{rules}
 use native.Mathlib.Omega.{arith}
 use mathlib.Core.Path.{◌≡◌, ap, sym, ◌∙◌}
 use mathlib.Core.List.{[], ◌∷◌}

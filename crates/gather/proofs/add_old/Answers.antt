@@ -1,8 +1,6 @@
 -- `gather::add_old`: the replaced version's leaf, if there is one.
-use borrow.Author.Rules.{rules}
 use native.Mathlib.Omega.{arith}
 use mathlib.Core.Path.{◌≡◌}
-use Prim.Native.Nat.{◌-◌}
 use Rattle.paper.specs.Numbers.{wide}
 use Rattle.paper.specs.Bytes.{zeros}
 use Rattle.paper.specs.Bits.{bits_of}

@@ -1,14 +1,9 @@
 -- `gather::gather`: the records passed have given their leaves.
-use borrow.Author.Rules.{rules}
-use native.Mathlib.Omega.{arith}
-use native.Mathlib.Numerals.{add-one}
-use mathlib.Core.Path.{◌≡◌, refl, ◌∙◌}
+use mathlib.Core.Path.{◌≡◌}
 use Prim.Native.Nat.{◌+◌, ◌-◌, ◌*◌, ◌≤◌}
 use lib.ListN.{length}
-use Rattle.record.specs.Places.{record_at, records_in}
+use Rattle.record.specs.Places.{records_in}
 use Rattle.gather.specs.Gathered.{leaves_by, Gained}
-use Rattle.gather.proofs.Row.{gain-none, gain-more}
-use Rattle.gather.proofs.Leaves.{by-none, by-snoc, few-leaves}
 use Rattle.gather.proofs.gather.Given as goal
 
 abbrev pub invariant-loop-i : goal.invariant-loop-i

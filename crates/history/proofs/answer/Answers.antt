@@ -1,5 +1,4 @@
 -- `history::answer`: how the walk went decides.
-use borrow.Author.Rules.{rules}
 use Rattle.history.proofs.answer.Goals as goal
 
 pub returns-in-Refused : goal.returns-in-Refused

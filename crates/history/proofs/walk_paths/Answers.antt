@@ -1,5 +1,4 @@
 -- `history::walk_paths`: all rows, from what is counted before them on.
-use borrow.Author.Rules.{rules}
 use native.Mathlib.Omega.{arith}
 use Rattle.history.proofs.walk_paths.Goals as goal
 

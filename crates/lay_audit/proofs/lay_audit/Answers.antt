@@ -1,5 +1,4 @@
 -- `lay_audit::lay_audit`: the lists are counted, and the proof is written if it has room.
-use borrow.Author.Rules.{rules}
 use borrow.Author.Tests.{not-true, not-false, leb-true, leb-false}
 use native.Mathlib.Omega.{arith}
 use mathlib.Core.Path.{◌≡◌, refl, sym, ap₂, ◌∙◌}

@@ -1,5 +1,4 @@
 -- `line::accepted`: the words and numbers of the line, one behind the other, and never over 64 bytes.
-use borrow.Author.Rules.{rules}
 use native.Mathlib.Omega.{arith}
 use Prim.Native.Nat.{◌≤◌}
 use Rattle.paper.specs.Program.{decimal, version_word, epoch_word, digests_word}

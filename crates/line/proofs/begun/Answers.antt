@@ -1,5 +1,4 @@
 -- `line::begun`: the number is written behind the word.
-use borrow.Author.Rules.{rules}
 use native.Mathlib.Omega.{arith}
 use mathlib.Core.Path.{ap, ◌∙◌}
 use Rattle.paper.specs.Program.{decimal}

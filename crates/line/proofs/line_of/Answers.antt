@@ -1,5 +1,4 @@
 -- `line::line_of`: a line for each case of the answer.
-use borrow.Author.Rules.{rules}
 use Rattle.line.proofs.line_of.Goals as goal
 
 pub returns-in-Found : goal.returns-in-Found

@@ -1,9 +1,8 @@
 -- `line::program_line`: the input is cut where document 01 says, or is refused.
-use borrow.Author.Rules.{rules}
 use borrow.Author.Tests.{ltb-true, ltb-false}
 use native.Mathlib.Omega.{arith}
 use mathlib.Core.Path.{refl, sym, ap, ◌∙◌}
-use mathlib.Core.Logic.{inl, inr, ⊎_elim}
+use mathlib.Core.Logic.{inl, inr}
 use lib.ListN.{get_or}
 use lib.Seq.{length-take-le}
 use Rattle.paper.specs.Program.{line}

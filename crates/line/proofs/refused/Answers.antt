@@ -1,5 +1,4 @@
 -- `line::refused`: the word and the number of the line.
-use borrow.Author.Rules.{rules}
 use native.Mathlib.Omega.{arith}
 use Rattle.paper.specs.Program.{decimal, refused_word}
 use Rattle.line.specs.Written.{text_of}

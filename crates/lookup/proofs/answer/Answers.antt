@@ -1,5 +1,4 @@
 -- `lookup::answer`: by the walk, and by the version.
-use borrow.Author.Rules.{rules}
 use mathlib.Core.Path.{sym}
 use Rattle.lookup.proofs.Tested.{some-answer}
 use Rattle.lookup.proofs.answer.Goals as goal

@@ -1,5 +1,4 @@
 -- `lookup::start_of`: no key and one path for version 0, and one key and three paths for any other.
-use borrow.Author.Rules.{rules}
 use Rattle.lookup.proofs.Tested.{some-parts}
 use Rattle.lookup.proofs.start_of.Goals as goal
 

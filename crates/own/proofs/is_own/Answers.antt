@@ -1,5 +1,4 @@
 -- `own::is_own`: the epoch and the name are looked at.
-use borrow.Author.Rules.{rules}
 use native.Mathlib.Omega.{arith}
 use mathlib.Core.Path.{sym, ap, ◌∙◌}
 use Rattle.paper.specs.Bytes.{same}

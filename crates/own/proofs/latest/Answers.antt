@@ -1,8 +1,7 @@
 -- `own::latest`: from the last record back, none of those passed is the name's.
-use borrow.Author.Rules.{rules}
 use native.Mathlib.Omega.{arith}
 use mathlib.Core.Path.{◌≡◌, refl, sym, ap, ◌∙◌}
-use Prim.Native.Nat.{suc, ◌-◌, ◌≤◌}
+use Prim.Native.Nat.{suc, ◌-◌}
 use Rattle.table.specs.Index.{last_where}
 use Rattle.table.proofs.Last.{last_none, last-yes, last-no}
 use Rattle.own.specs.Own.{own_by}

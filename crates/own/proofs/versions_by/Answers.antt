@@ -1,10 +1,8 @@
 -- `own::versions_by`: the versions among the records passed are counted.
-use borrow.Author.Rules.{rules}
 use native.Mathlib.Omega.{arith}
 use native.Mathlib.Numerals.{add-one}
 use mathlib.Core.Path.{◌≡◌, sym, ap, ◌∙◌}
 use mathlib.Core.List.{[], ◌∷◌}
-use Prim.Native.Nat.{◌-◌, ◌≤◌}
 use lib.ListN.{length, length-append}
 use Rattle.paper.specs.Labelling.{plain}
 use Rattle.paper.specs.Write.{versions_by}

@@ -1,15 +1,10 @@
 -- `own::versions_by`: the versions among the records passed are counted.
-use borrow.Author.Rules.{rules}
-use native.Mathlib.Omega.{arith}
-use native.Mathlib.Numerals.{add-one}
-use mathlib.Core.Path.{◌≡◌, sym, ap, ◌∙◌}
-use mathlib.Core.List.{[], ◌∷◌}
+use mathlib.Core.Path.{◌≡◌}
 use Prim.Native.Nat.{◌-◌, ◌≤◌}
-use lib.ListN.{length, length-append}
+use lib.ListN.{length}
 use Rattle.paper.specs.Labelling.{plain}
 use Rattle.paper.specs.Write.{versions_by}
-use Rattle.record.specs.Places.{record_at, records_in}
-use Rattle.own.proofs.Versions.{versions-zero, versions-yes, versions-no}
+use Rattle.record.specs.Places.{records_in}
 use Rattle.own.proofs.versions_by.Given as goal
 
 abbrev pub invariant-loop-i : goal.invariant-loop-i

@@ -1,9 +1,8 @@
 -- `path::take`: what was parsed stands at its places, so root and end are those of the path that was read.
-use borrow.Author.Rules.{rules}
 use borrow.Author.Tests.{not-true, not-false}
 use native.Mathlib.Omega.{arith}
 use mathlib.Core.Path.{sym}
-use Rattle.paper.specs.Bytes.{Bytewise, same}
+use Rattle.paper.specs.Bytes.{Bytewise}
 use Rattle.path_form.specs.Places.{PathStands}
 use Rattle.ranges.proofs.Slices.{bytewise}
 use Rattle.path.proofs.Found.{path-stands, taken-bad, taken-good}

@@ -1,5 +1,4 @@
 -- `path_fields::write_end`: the fields lie right behind the kind.
-use borrow.Author.Rules.{rules}
 use mathlib.Core.Path.{◌∙◌}
 use lib.ListN.{length-set}
 use Rattle.path_fields.proofs.Writing.{end-wrote}

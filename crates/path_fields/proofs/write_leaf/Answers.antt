@@ -1,5 +1,4 @@
 -- `path_fields::write_leaf`: the fields of an end are bytes of the leaf.
-use borrow.Author.Rules.{rules}
 use native.Mathlib.Omega.{arith}
 use mathlib.Core.Path.{◌≡◌, sym, ap, ◌∙◌, subst}
 use mathlib.Core.Bool.{true, false}

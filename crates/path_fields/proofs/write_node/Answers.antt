@@ -1,5 +1,4 @@
 -- `path_fields::write_node`: kind, prefix length, prefix and the two digests, one right behind the other.
-use borrow.Author.Rules.{rules}
 use native.Mathlib.Omega.{arith}
 use mathlib.Core.Path.{sym, ap, ◌∙◌}
 use Prim.Native.Nat.{◌+◌}

@@ -1,5 +1,4 @@
 -- `record::epoch_at`: the field is at its place.
-use borrow.Author.Rules.{rules}
 use mathlib.Core.Path.{◌∙◌}
 use Rattle.record.proofs.Places.{epoch-part}
 use Rattle.record.proofs.epoch_at.Goals as goal

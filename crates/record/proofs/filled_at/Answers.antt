@@ -1,5 +1,4 @@
 -- `record::filled_at`: the part begins behind its length, and has as many bytes as that says.
-use borrow.Author.Rules.{rules}
 use mathlib.Core.Path.{refl}
 use Rattle.ranges.proofs.Part.{part-made}
 use Rattle.record.proofs.Places.{filled-part}

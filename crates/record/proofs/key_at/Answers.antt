@@ -1,5 +1,4 @@
 -- `record::key_at`: the field is at its place.
-use borrow.Author.Rules.{rules}
 use native.Mathlib.Omega.{arith}
 use Rattle.ranges.proofs.Part.{part-told}
 use Rattle.record.proofs.Places.{key-part}

@@ -1,5 +1,4 @@
 -- `record::name_at`: the field is at its place.
-use borrow.Author.Rules.{rules}
 use mathlib.Core.Path.{refl}
 use Rattle.ranges.proofs.Part.{part-told}
 use Rattle.record.proofs.Places.{name-part}

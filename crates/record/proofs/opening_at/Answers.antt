@@ -1,5 +1,4 @@
 -- `record::opening_at`: the field is at its place.
-use borrow.Author.Rules.{rules}
 use mathlib.Core.Path.{◌∙◌}
 use Rattle.record.proofs.Places.{opening-part}
 use Rattle.record.proofs.opening_at.Goals as goal

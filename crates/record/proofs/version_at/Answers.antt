@@ -1,5 +1,4 @@
 -- `record::version_at`: the field is at its place.
-use borrow.Author.Rules.{rules}
 use mathlib.Core.Path.{◌∙◌}
 use Rattle.record.proofs.Places.{version-part}
 use Rattle.record.proofs.version_at.Goals as goal

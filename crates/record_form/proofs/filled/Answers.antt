@@ -1,5 +1,4 @@
 -- `record_form::filled`: the length decides, and then the bytes behind so many.
-use borrow.Author.Rules.{rules}
 use native.Mathlib.Omega.{arith}
 use mathlib.Core.Path.{sym, ◌∙◌}
 use mathlib.Core.Logic.{inl, inr}

@@ -1,6 +1,4 @@
 -- `record_form::in_form`: the tests are those of the layout; an epoch and an opening are any bytes.
-use borrow.Author.Rules.{rules}
-use borrow.Author.Tests.{not-true, not-false}
 use native.Mathlib.Omega.{arith}
 use mathlib.Core.Path.{◌≡◌, sym, ap, ◌∙◌}
 use mathlib.Core.Logic.{inl, inr}

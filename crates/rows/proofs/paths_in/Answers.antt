@@ -1,5 +1,4 @@
 -- `rows::paths_in`: by whose rows they are.
-use borrow.Author.Rules.{rules}
 use mathlib.Core.Path.{sym, ap, ◌∙◌}
 use lib.ListN.{length}
 use Rattle.rows.specs.Rows.{row_of}

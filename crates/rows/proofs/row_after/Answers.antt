@@ -1,5 +1,4 @@
 -- `rows::row_after`: as many paths on as the row has.
-use borrow.Author.Rules.{rules}
 use mathlib.Core.Path.{ap, ◌∙◌}
 use Rattle.runs.specs.Runs.{place_at}
 use Rattle.rows.proofs.row_after.Goals as goal

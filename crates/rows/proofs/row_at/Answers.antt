@@ -1,5 +1,4 @@
 -- `rows::row_at`: by whose rows they are.
-use borrow.Author.Rules.{rules}
 use mathlib.Core.Path.{sym, ap, ◌∙◌}
 use Rattle.walks.specs.Walk.{walks}
 use Rattle.rows.specs.Rows.{row_of}

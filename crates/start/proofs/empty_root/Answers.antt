@@ -1,5 +1,4 @@
 -- `start::empty_root`: an inner node over nothing and nothing.
-use borrow.Author.Rules.{rules}
 use mathlib.Core.Path.{sym, ap, ◌∙◌}
 use Rattle.fips.specs.Sha256.{sha256}
 use Rattle.paper.specs.Numbers.{wide}

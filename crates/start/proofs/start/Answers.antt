@@ -1,6 +1,4 @@
 -- `start::start`: one test, and head 0.
-use borrow.Author.Rules.{rules}
-use borrow.Author.Tests.{not-true, not-false}
 use native.Mathlib.Omega.{arith}
 use mathlib.Core.Path.{◌≡◌, sym, ap, ◌∙◌}
 use Rattle.fips.specs.Sha256.{sha256}

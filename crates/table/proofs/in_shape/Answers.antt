@@ -1,5 +1,4 @@
 -- `table::in_shape`: where the head and the records lie in their tables, the records decide.
-use borrow.Author.Rules.{rules}
 use native.Mathlib.Omega.{arith}
 use lib.ListN.{length}
 use Rattle.ranges.proofs.Slices.{bytewise}

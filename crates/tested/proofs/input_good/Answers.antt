@@ -1,5 +1,4 @@
 -- `tested::input_good`: the tests one after the other.
-use borrow.Author.Rules.{rules}
 use borrow.Author.Tests.{not-true, not-false}
 use mathlib.Core.Path.{sym, ◌∙◌}
 use Rattle.tested.specs.Tested.{input_good}

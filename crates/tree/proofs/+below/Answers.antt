@@ -1,10 +1,9 @@
 -- `tree::below`: the leaves part where `Halves` says what the parts come to, and the slots of a fork lie as `Over` says. What is left of
 -- 256 bits falls, since each part shares more bits than the whole.
-use borrow.Author.Rules.{rules}
 use native.Mathlib.Omega.{arith}
 use mathlib.Core.Path.{◌≡◌, sym, ap, ◌∙◌}
 use mathlib.Core.List.{◌++◌}
-use Prim.Native.Nat.{ℕ, ◌-◌, ◌*◌, ◌<◌}
+use Prim.Native.Nat.{ℕ, ◌-◌, ◌*◌}
 use lib.ListN.{length, take, drop, length-drop}
 use lib.Seq.{length-take-le}
 use Rattle.tree.proofs.Halves.{Halves, halves, before-sorted, behind-sorted}

@@ -1,5 +1,4 @@
 -- `tree::fork_digest`: the prefix is the first k bits of the first label, of which there are 256.
-use borrow.Author.Rules.{rules}
 use native.Mathlib.Omega.{arith}
 use mathlib.Core.Path.{◌≡◌, sym, ap, ◌∙◌}
 use lib.ListN.{length, take}

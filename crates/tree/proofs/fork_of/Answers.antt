@@ -1,5 +1,4 @@
 -- `tree::fork_of`: what the first and the last label share, all share, and there they are cut.
-use borrow.Author.Rules.{rules}
 use mathlib.Core.Path.{◌≡◌, sym, ap₂, ◌∙◌, subst}
 use Prim.Native.Nat.{◌-◌, ◌≤◌}
 use native.Mathlib.Omega.{arith}

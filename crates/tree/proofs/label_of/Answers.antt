@@ -1,5 +1,4 @@
 -- `tree::label_of`: the part has 32 bytes.
-use borrow.Author.Rules.{rules}
 use Prim.Native.Nat.{◌*◌}
 use mathlib.Core.Path.{refl}
 use Rattle.ranges.proofs.Slices.{part-is}

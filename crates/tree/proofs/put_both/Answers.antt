@@ -1,5 +1,4 @@
 -- `tree::put_both`: the second string lies right behind the first.
-use borrow.Author.Rules.{rules}
 use native.Mathlib.Omega.{arith}
 use mathlib.Core.Path.{◌≡◌, ap₂, ◌∙◌}
 use Prim.Native.Nat.{◌+◌}

@@ -1,5 +1,4 @@
 -- `tree::side`: nothing, or the tree below the root, with a slot to spare.
-use borrow.Author.Rules.{rules}
 use native.Mathlib.Omega.{arith}
 use mathlib.Core.Path.{sym, ◌∙◌}
 use Prim.Native.Nat.{◌-◌, ◌*◌}

@@ -2,8 +2,8 @@
 use borrow.Author.Rules.{rules}
 use native.Mathlib.Omega.{arith}
 use mathlib.Core.Path.{◌≡◌, sym, ap, ◌∙◌}
-use mathlib.Core.Bool.{true, false}
-use Prim.Native.Nat.{ℕ, ◌+◌, ◌-◌, ◌/◌, ◌≤◌, ◌<◌}
+use mathlib.Core.Bool.{false}
+use Prim.Native.Nat.{ℕ, ◌+◌, ◌-◌, ◌/◌, ◌<◌}
 use lib.ListN.{get_or}
 use Rattle.paper.specs.Bits.{bits_of}
 use Rattle.paper.specs.Tree.{key}

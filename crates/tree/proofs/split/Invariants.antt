@@ -1,16 +1,9 @@
 -- `tree::split`: all leaves before `low` have a 0, and all from `high` on a 1; the leaf in the middle decides for those on its side.
-use borrow.Author.Rules.{rules}
-use native.Mathlib.Omega.{arith}
-use mathlib.Core.Path.{◌≡◌, sym, ap, ◌∙◌}
+use mathlib.Core.Path.{◌≡◌}
 use mathlib.Core.Bool.{true, false}
-use Prim.Native.Nat.{ℕ, ◌+◌, ◌-◌, ◌/◌, ◌≤◌, ◌<◌}
-use lib.ListN.{get_or}
-use Rattle.paper.specs.Bits.{bits_of}
-use Rattle.paper.specs.Tree.{key}
+use Prim.Native.Nat.{ℕ, ◌-◌, ◌≤◌, ◌<◌}
 use Rattle.paper.specs.Level.{leaves_in}
-use Rattle.bit_order.proofs.Leaves.{leaves-length, leaves-long, leaf-at}
-use Rattle.bit_order.proofs.Order.{rising-ordered}
-use Rattle.tree.proofs.Rising.{bit_at, climbs, sinks, cut_at}
+use Rattle.tree.proofs.Rising.{bit_at}
 use Rattle.tree.proofs.split.Given as goal
 
 abbrev pub invariant-loop-low : goal.invariant-loop-low

@@ -1,5 +1,4 @@
 -- `tree::store`: the leaves part at the first bit, and each side has its own slots.
-use borrow.Author.Rules.{rules}
 use native.Mathlib.Omega.{arith}
 use mathlib.Core.Path.{sym, ap, ◌∙◌, subst}
 use Prim.Native.Nat.{◌-◌, ◌*◌, ◌≤◌}

@@ -1,5 +1,4 @@
 -- `tree_path::end_size`: any other kind is nothing.
-use borrow.Author.Rules.{rules}
 use native.Mathlib.Omega.{arith}
 use Prim.Native.Nat.{◌≤◌}
 use Rattle.tree_path.proofs.Ends.{no_size}

@@ -1,5 +1,4 @@
 -- `tree_path::has_prefix`: two labels share as many bits as they agree on.
-use borrow.Author.Rules.{rules}
 use mathlib.Core.Path.{ap, ◌∙◌}
 use lib.Dec.{leb}
 use lib.ListN.{take}

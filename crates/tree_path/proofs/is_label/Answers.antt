@@ -1,5 +1,4 @@
 -- `tree_path::is_label`: labels are the same where their bytes are.
-use borrow.Author.Rules.{rules}
 use native.Mathlib.Omega.{arith}
 use mathlib.Core.Path.{sym, ap, ◌∙◌}
 use lib.ListN.{take}

@@ -1,5 +1,4 @@
 -- `tree_path::is_there`: the end is this leaf exactly where the label is there.
-use borrow.Author.Rules.{rules}
 use mathlib.Core.Path.{ap, ◌∙◌}
 use lib.Dec.{eqb}
 use Rattle.tree.proofs.Rising.{all-at}

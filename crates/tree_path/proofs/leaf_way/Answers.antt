@@ -1,5 +1,4 @@
 -- `tree_path::leaf_way`: the end is this leaf or another one.
-use borrow.Author.Rules.{rules}
 use mathlib.Core.Path.{sym, ◌∙◌}
 use mathlib.Core.Bool.{true, false}
 use Rattle.paper.specs.Bits.{bits_of}

@@ -1,5 +1,4 @@
 -- `tree_path::path_length`: a step has 34 bytes, and an end as many as its kind says.
-use borrow.Author.Rules.{rules}
 use native.Mathlib.Omega.{arith}
 use mathlib.Core.Path.{sym, ap, ◌∙◌}
 use Prim.Native.Nat.{◌+◌, ◌*◌, ◌≤◌}

@@ -1,5 +1,4 @@
 -- `tree_path::way_of`: the root has no bits, so the label goes down on the side of its first bit.
-use borrow.Author.Rules.{rules}
 use native.Mathlib.Omega.{arith}
 use mathlib.Core.Path.{◌≡◌, refl, sym, ap, ◌∙◌}
 use mathlib.Core.Bool.{true, false}

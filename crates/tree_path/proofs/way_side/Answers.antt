@@ -1,5 +1,4 @@
 -- `tree_path::way_side`: nothing, or the way below the root.
-use borrow.Author.Rules.{rules}
 use native.Mathlib.Omega.{arith}
 use mathlib.Core.Path.{sym, ap, ◌∙◌}
 use Rattle.paper.specs.Bits.{bits_of}

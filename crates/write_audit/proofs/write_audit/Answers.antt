@@ -1,5 +1,4 @@
 -- `write_audit::write_audit`: the first tests refuse, or the rest remains.
-use borrow.Author.Rules.{rules}
 use borrow.Author.Tests.{leb-true}
 use mathlib.Core.Path.{sym, ◌∙◌}
 use mathlib.Core.List.{List}

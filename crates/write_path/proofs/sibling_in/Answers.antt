@@ -1,5 +1,4 @@
 -- `write_path::sibling_in`: the left digest is the slot's first half.
-use borrow.Author.Rules.{rules}
 use mathlib.Core.Path.{sym, ap, ◌∙◌}
 use mathlib.Core.Bool.{cond}
 use Prim.Native.Nat.{◌+◌}

@@ -1,5 +1,4 @@
 -- `write_path::write_path`: the count, and what stands behind it.
-use borrow.Author.Rules.{rules}
 use native.Mathlib.Omega.{arith}
 use mathlib.Core.Path.{ap}
 use Prim.Native.Nat.{◌≤◌}

@@ -1,5 +1,4 @@
 -- `write_path::write_side`: nothing, or the way below the root; its slots come before the spare one.
-use borrow.Author.Rules.{rules}
 use native.Mathlib.Omega.{arith}
 use mathlib.Core.Path.{sym}
 use Prim.Native.Nat.{◌-◌, ◌*◌}

@@ -1,5 +1,4 @@
 -- `front::keys::item_size`: length, key, and the 32 bytes of an opening.
-use borrow.Author.Rules.{rules}
 use mathlib.Core.Path.{refl, sym}
 use Rattle.front.proofs.Items.{read-size}
 use Rattle.front.proofs.keys.item_size.Goals as goal

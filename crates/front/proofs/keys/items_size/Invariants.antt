@@ -1,15 +1,11 @@
 -- `front::keys::items_size`: the keys among the records passed are measured.
-use borrow.Author.Rules.{rules}
-use native.Mathlib.Omega.{arith}
-use native.Mathlib.Numerals.{add-one}
-use mathlib.Core.Path.{◌≡◌, sym, ap, ◌∙◌}
-use Prim.Native.Nat.{suc, ◌+◌, ◌-◌, ◌*◌, ◌≤◌}
+use mathlib.Core.Path.{◌≡◌}
+use Prim.Native.Nat.{◌-◌, ◌*◌, ◌≤◌}
 use lib.ListN.{length}
 use Rattle.paper.specs.Labelling.{plain}
 use Rattle.paper.specs.Write.{versions_by}
 use Rattle.record.specs.Places.{records_in}
 use Rattle.front.specs.Front.{item_bytes, items_from}
-use Rattle.front.proofs.Items.{item-most, bytes-start, long-yes, length-yes, long-no, bytes-no}
 use Rattle.front.proofs.keys.items_size.Given as goal
 
 abbrev pub invariant-loop-i : goal.invariant-loop-i

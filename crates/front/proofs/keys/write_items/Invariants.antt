@@ -1,8 +1,5 @@
 -- `front::keys::write_items`: the keys among the records passed are written.
-use borrow.Author.Rules.{rules}
-use native.Mathlib.Omega.{arith}
-use native.Mathlib.Numerals.{add-one}
-use mathlib.Core.Path.{◌≡◌, refl, sym, ◌∙◌, subst}
+use mathlib.Core.Path.{◌≡◌}
 use Prim.Native.Nat.{◌-◌, ◌≤◌}
 use lib.ListN.{length}
 use Rattle.paper.specs.Labelling.{plain}
@@ -10,7 +7,6 @@ use Rattle.paper.specs.Write.{versions_by}
 use Rattle.record.specs.Places.{records_in}
 use Rattle.path_fields.specs.Written.{Wrote}
 use Rattle.front.specs.Front.{item_bytes, items_from}
-use Rattle.front.proofs.Items.{wrote-start, long-yes, wrote-yes, long-no, bytes-no, bytes-room}
 use Rattle.front.proofs.keys.write_items.Given as goal
 
 abbrev pub invariant-loop-i : goal.invariant-loop-i

@@ -1,5 +1,4 @@
 -- `front::opening::write_front`: six parts, one behind the other.
-use borrow.Author.Rules.{rules}
 use native.Mathlib.Omega.{arith}
 use Rattle.paper.specs.Strings.{Head}
 use Rattle.front.proofs.Front.{front-laid}

@@ -1,5 +1,4 @@
 -- `lay_audit::lay::lay`: the new head and the lists, the roots that the lists had, and before them header and old head.
-use borrow.Author.Rules.{rules}
 use native.Mathlib.Omega.{arith}
 use mathlib.Core.Path.{◌∙◌}
 use mathlib.Core.List.{List}

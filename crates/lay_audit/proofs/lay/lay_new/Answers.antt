@@ -1,5 +1,4 @@
 -- `lay_audit::lay::lay_new`: the new head and both lists, one behind the other.
-use borrow.Author.Rules.{rules}
 use native.Mathlib.Omega.{arith}
 use mathlib.Core.Path.{◌∙◌}
 use mathlib.Core.List.{List}

@@ -1,5 +1,4 @@
 -- `lay_audit::lay::root-before`: the root of the list's nodes but the new leaves.
-use borrow.Author.Rules.{rules}
 use mathlib.Core.Path.{ap, ◌∙◌}
 use Prim.Native.Nat.{◌+◌}
 use Rattle.paper.specs.Tree.{root_digest}

@@ -1,5 +1,4 @@
 -- `lay_audit::lay::write_head`: four parts, one behind the other.
-use borrow.Author.Rules.{rules}
 use native.Mathlib.Omega.{arith}
 use mathlib.Core.Path.{ap, ◌∙◌}
 use Prim.Native.Nat.{◌+◌}

@@ -1,5 +1,4 @@
 -- `level::entry::tree_root`: the tests in their order, over a copy of the entries.
-use borrow.Author.Rules.{rules}
 use borrow.Author.Tests.{not-true, not-false}
 use native.Mathlib.Omega.{arith}
 use mathlib.Core.Path.{◌≡◌, sym, ap, ap₂, ◌∙◌, subst}

@@ -1,7 +1,6 @@
 -- `level::path::is_in_the_way`: asked only where the label is to be shown absent.
 use borrow.Author.Tests.{not-true, not-false}
 use mathlib.Core.Path.{sym, ◌∙◌}
-use borrow.Author.Rules.{rules}
 use Rattle.level.proofs.path.is_in_the_way.Goals as goal
 
 -- src/path.rt:26:9

@@ -1,11 +1,10 @@
 -- `level::path::path_over`: the tests in their order; the tree over the leaves in order is the tree over them as they were.
-use borrow.Author.Rules.{rules}
 use borrow.Author.Tests.{not-true, not-false}
 use native.Mathlib.Omega.{arith}
 use mathlib.Core.Path.{◌≡◌, sym, ap, ap₂, ◌∙◌}
 use mathlib.Core.Bool.{true, false, ◌&&◌}
 use mathlib.Core.List.{◌++◌}
-use Prim.Native.Nat.{◌+◌, ◌*◌}
+use Prim.Native.Nat.{◌*◌}
 use lib.ListN.{length, take, drop, length-append}
 use lib.Seq.{length-take-le, take_at}
 use Rattle.paper.specs.Bytes.{pasted}

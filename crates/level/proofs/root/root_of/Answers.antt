@@ -1,5 +1,4 @@
 -- `level::root::root_of`: the tree over the leaves in order is the tree over them as they were.
-use borrow.Author.Rules.{rules}
 use borrow.Author.Tests.{not-true, not-false}
 use native.Mathlib.Omega.{arith}
 use mathlib.Core.Path.{◌≡◌, sym, ap, ◌∙◌}

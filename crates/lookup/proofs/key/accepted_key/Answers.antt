@@ -1,5 +1,4 @@
 -- `lookup::key::accepted_key`: a key that was found stands behind the front, and the part begins where it does.
-use borrow.Author.Rules.{rules}
 use native.Mathlib.Omega.{arith}
 use mathlib.Core.Path.{refl, sym, ◌∙◌}
 use Rattle.ranges.proofs.Slices.{bytewise}

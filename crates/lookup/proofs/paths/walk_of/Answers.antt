@@ -1,5 +1,4 @@
 -- `lookup::paths::walk_of`: all rows, from what is counted before them on.
-use borrow.Author.Rules.{rules}
 use native.Mathlib.Omega.{arith}
 use mathlib.Core.Path.{ap, ◌∙◌}
 use Rattle.walks.specs.Walk.{walks}

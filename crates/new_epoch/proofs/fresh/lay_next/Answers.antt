@@ -1,5 +1,4 @@
 -- `new_epoch::fresh::lay_next`: the version is one more than the name's last.
-use borrow.Author.Rules.{rules}
 use borrow.Author.Tests.{le-leb, lt-leb}
 use native.Mathlib.Numerals.{add-one}
 use native.Mathlib.Omega.{arith}

@@ -1,11 +1,10 @@
 -- `new_epoch::fresh::prepare`: the records of the updates passed stand at the start.
-use borrow.Author.Rules.{rules}
 use borrow.Author.Tests.{not-true, not-false}
 use native.Mathlib.Numerals.{add-one}
 use native.Mathlib.Omega.{arith}
 use mathlib.Core.Path.{◌≡◌, refl, sym, ap, ◌∙◌, subst}
 use mathlib.Core.Bool.{false≢true}
-use Prim.Native.Nat.{ℕ, suc, ◌-◌, ◌*◌, ◌≤◌, ◌<◌}
+use Prim.Native.Nat.{ℕ, suc, ◌*◌, ◌≤◌, ◌<◌}
 use lib.ListN.{length}
 use Rattle.paper.specs.Bytes.{pasted}
 use Rattle.paper.specs.Layout.{times_bytes}

@@ -1,12 +1,11 @@
 -- `new_epoch::heading::head_of`: both trees, and the head over them.
-use borrow.Author.Rules.{rules}
 use borrow.Author.Tests.{not-true, not-false}
 use native.Mathlib.Numerals.{add-one}
 use native.Mathlib.Omega.{arith}
 use mathlib.Core.Path.{refl, sym, ◌∙◌}
 use mathlib.Core.Bool.{and-false}
 use mathlib.Core.List.{List, ◌++◌}
-use Prim.Native.Nat.{suc, ◌+◌}
+use Prim.Native.Nat.{suc}
 use Rattle.paper.specs.Labelling.{plain}
 use Rattle.paper.specs.Table.{Record, all_at, old_at, distinct, head_at}
 use Rattle.paper.proofs.Lists.{and_both}

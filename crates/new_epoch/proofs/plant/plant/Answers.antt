@@ -1,9 +1,8 @@
 -- `new_epoch::plant::plant`: the leaves of the table's records and behind them those of the new ones are the tree's.
-use borrow.Author.Rules.{rules}
 use native.Mathlib.Omega.{arith}
 use mathlib.Core.Path.{sym, ap, ◌∙◌, subst}
 use mathlib.Core.List.{List, ◌++◌}
-use Prim.Native.Nat.{◌+◌, ◌*◌, ◌≤◌}
+use Prim.Native.Nat.{◌*◌, ◌≤◌}
 use lib.ListN.{length}
 use lib.Seq.{length-take-le}
 use Rattle.paper.specs.Strings.{Node}

@@ -1,5 +1,4 @@
 -- `noonhaggle::handset::noonhaggle_check_lookup`: the checker's answer, as C has it.
-use borrow.Author.Rules.{rules}
 use mathlib.Core.Path.{ap, ◌∙◌}
 use Rattle.results.specs.Results.{lookup_result}
 use Rattle.noonhaggle.proofs.handset.noonhaggle_check_lookup.Goals as goal

@@ -1,5 +1,4 @@
 -- `noonhaggle::handset::noonhaggle_sha256`: the digest in a struct.
-use borrow.Author.Rules.{rules}
 use mathlib.Core.Path.{ap}
 use Rattle.noonhaggle.proofs.handset.noonhaggle_sha256.Goals as goal
 

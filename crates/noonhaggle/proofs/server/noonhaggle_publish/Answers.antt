@@ -1,5 +1,4 @@
 -- `noonhaggle::server::noonhaggle_publish`: the entry's answer, as C has it.
-use borrow.Author.Rules.{rules}
 use Rattle.noonhaggle.proofs.Left.{publish-left}
 use Rattle.noonhaggle.proofs.server.noonhaggle_publish.Goals as goal
 

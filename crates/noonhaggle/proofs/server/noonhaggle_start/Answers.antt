@@ -1,5 +1,4 @@
 -- `noonhaggle::server::noonhaggle_start`: the entry's answer, as C has it.
-use borrow.Author.Rules.{rules}
 use Rattle.noonhaggle.proofs.Left.{start-left}
 use Rattle.noonhaggle.proofs.server.noonhaggle_start.Goals as goal
 

@@ -1,5 +1,4 @@
 -- `noonhaggle::server::noonhaggle_write_lookup`: the writer's answer, as C has it.
-use borrow.Author.Rules.{rules}
 use Rattle.noonhaggle.proofs.Left.{write-left}
 use Rattle.noonhaggle.proofs.server.noonhaggle_write_lookup.Goals as goal
 

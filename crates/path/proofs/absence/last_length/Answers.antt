@@ -1,5 +1,4 @@
 -- `path::absence::last_length`: the number at the last step.
-use borrow.Author.Rules.{rules}
 use mathlib.Core.Path.{sym, ◌∙◌}
 use Rattle.path_form.proofs.Steps.{last-at}
 use Rattle.path.proofs.absence.last_length.Goals as goal

@@ -3,7 +3,7 @@ use borrow.Author.Rules.{rules}
 use borrow.Author.Tests.{leb-true, leb-false}
 use native.Mathlib.Omega.{arith}
 use mathlib.Core.Path.{◌≡◌, sym, ◌∙◌}
-use mathlib.Core.Logic.{inl, inr, ⊎_elim}
+use mathlib.Core.Logic.{inl, inr}
 use lib.ListN.{length, take, drop}
 use Rattle.paper.specs.Bits.{first_difference}
 use Rattle.path.proofs.Parting.{parting-yes, parting-no, difference-at}

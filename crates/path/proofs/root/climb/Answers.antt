@@ -1,8 +1,7 @@
 -- `path::root::climb`: `below` is the digest over the steps from i on.
-use borrow.Author.Rules.{rules}
 use native.Mathlib.Omega.{arith}
 use mathlib.Core.Path.{◌≡◌, sym, ap, ◌∙◌}
-use Prim.Native.Nat.{◌+◌, ◌-◌, ◌*◌, ◌≤◌}
+use Prim.Native.Nat.{◌+◌, ◌-◌, ◌*◌}
 use lib.ListN.{drop}
 use Rattle.paper.specs.Bits.{bits_of}
 use Rattle.paper.specs.Tree.{digest}

@@ -1,5 +1,4 @@
 -- `path::root::inner_at`: the node's parts are those at the place.
-use borrow.Author.Rules.{rules}
 use mathlib.Core.Path.{◌∙◌}
 use Rattle.path.proofs.root.inner_at.Goals as goal
 

@@ -1,5 +1,4 @@
 -- `path::root::leaf_at`: the commitment is the part at the place.
-use borrow.Author.Rules.{rules}
 use mathlib.Core.Path.{ap, ◌∙◌}
 use Rattle.fips.specs.Sha256.{sha256}
 use Rattle.paper.specs.Strings.{leaf_string}

@@ -1,5 +1,4 @@
 -- `path::root::other_leaf_at`: the label is the part at the place, and the commitment the one behind it.
-use borrow.Author.Rules.{rules}
 use mathlib.Core.Path.{ap, ◌∙◌}
 use Prim.Native.Nat.{◌+◌}
 use lib.ListN.{take, drop}

@@ -1,5 +1,4 @@
 -- `path::root::root_of`: the digests from the end upwards give the path's root.
-use borrow.Author.Rules.{rules}
 use mathlib.Core.Path.{ap, ◌∙◌}
 use lib.ListN.{drop}
 use Rattle.paper.specs.Bits.{bits_of}

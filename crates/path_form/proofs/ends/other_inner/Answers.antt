@@ -1,6 +1,5 @@
 -- `path_form::ends::other_inner`: where the 98 bytes are there and the prefix is good, their parts are the end's fields.
 use borrow.Author.Rules.{rules}
-use borrow.Author.Tests.{not-true, not-false}
 use mathlib.Core.Path.{sym, ◌∙◌}
 use Rattle.paper.specs.Fields.{end_of}
 use Rattle.path_form.proofs.Fields.{off-flat}

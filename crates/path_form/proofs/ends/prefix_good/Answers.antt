@@ -3,7 +3,7 @@ use borrow.Author.Rules.{rules}
 use borrow.Author.Tests.{ltb-true, ltb-false}
 use native.Mathlib.Omega.{arith}
 use mathlib.Core.Path.{sym, ◌∙◌}
-use mathlib.Core.Logic.{inl, inr, ⊎_elim}
+use mathlib.Core.Logic.{inl, inr}
 use Rattle.ranges.proofs.Slices.{bytewise}
 use Rattle.path_form.proofs.Prefix.{prefix-long, prefix-tested}
 use Rattle.path_form.proofs.ends.prefix_good.Goals as goal

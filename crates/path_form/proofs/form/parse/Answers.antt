@@ -1,5 +1,4 @@
 -- `path_form::form::parse`: count, steps and end are read one behind the other, as the layout does.
-use borrow.Author.Rules.{rules}
 use borrow.Author.Tests.{not-true, not-false}
 use native.Mathlib.Omega.{arith}
 use mathlib.Core.Path.{◌≡◌, sym, ap, ◌∙◌}

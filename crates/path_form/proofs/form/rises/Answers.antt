@@ -2,11 +2,9 @@
 use borrow.Author.Rules.{rules}
 use borrow.Author.Tests.{ltb-true, ltb-false}
 use native.Mathlib.Omega.{arith}
-use mathlib.Core.Path.{◌≡◌, sym, ◌∙◌}
-use mathlib.Core.Logic.{inl, inr, ⊎_elim}
-use Prim.Native.Nat.{◌+◌, ◌-◌, ◌*◌, ◌≤◌}
-use lib.ListN.{length, drop, length-drop}
-use Rattle.path_form.specs.Places.{steps_in, ranged, rising}
+use mathlib.Core.Path.{sym, ◌∙◌}
+use mathlib.Core.Logic.{inl, inr}
+use lib.ListN.{drop, length-drop}
 use Rattle.path_form.proofs.Steps.{rising-room, rising-cut, rises-end, rises-stop, rises-on}
 use Rattle.path_form.proofs.form.rises.Goals as goal
 use Rattle.path_form.proofs.form.rises.Goals.{then-length-low-via-else-length-low+then-high-length, then-length-low-via-then-length-low}

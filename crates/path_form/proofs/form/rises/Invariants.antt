@@ -1,13 +1,8 @@
 -- `path_form::form::rises`: the lengths passed were in their ranges, so the rest decides.
-use borrow.Author.Rules.{rules}
-use borrow.Author.Tests.{ltb-true, ltb-false}
-use native.Mathlib.Omega.{arith}
-use mathlib.Core.Path.{◌≡◌, sym, ◌∙◌}
-use mathlib.Core.Logic.{inl, inr, ⊎_elim}
+use mathlib.Core.Path.{◌≡◌}
 use Prim.Native.Nat.{◌+◌, ◌-◌, ◌*◌, ◌≤◌}
-use lib.ListN.{length, drop, length-drop}
+use lib.ListN.{length, drop}
 use Rattle.path_form.specs.Places.{steps_in, ranged, rising}
-use Rattle.path_form.proofs.Steps.{rising-room, rising-cut, rises-end, rises-stop, rises-on}
 use Rattle.path_form.proofs.form.rises.Given as goal
 
 abbrev pub invariant-loop-i : goal.invariant-loop-i

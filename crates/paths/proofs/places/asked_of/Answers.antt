@@ -1,5 +1,4 @@
 -- `paths::places::asked_of`: which one, in either case.
-use borrow.Author.Rules.{rules}
 use Rattle.paths.proofs.places.asked_of.Goals as goal
 
 -- src/places.rt:30:9

@@ -1,5 +1,4 @@
 -- `paths::places::label_of`: each place has the label of its kind and number.
-use borrow.Author.Rules.{rules}
 use Rattle.paths.proofs.places.label_of.Goals as goal
 
 -- src/places.rt:36:1

@@ -1,5 +1,4 @@
 -- `paths::places::paths_of`: how many, in either case.
-use borrow.Author.Rules.{rules}
 use Rattle.paths.proofs.places.paths_of.Goals as goal
 
 -- src/places.rt:20:9

@@ -1,5 +1,4 @@
 -- `paths::sizes::measure_in`: the label's way says both.
-use borrow.Author.Rules.{rules}
 use mathlib.Core.Path.{◌≡◌, refl, sym, ap, subst}
 use mathlib.Core.Bool.{true, not}
 use Prim.Native.Nat.{◌≤◌}

@@ -1,5 +1,4 @@
 -- `paths::sizes::measure_path`: the place says which tree.
-use borrow.Author.Rules.{rules}
 use mathlib.Core.Path.{sym, ap}
 use Rattle.paper.specs.Level.{leaves_in}
 use Rattle.plan.specs.Asked.{place_of}

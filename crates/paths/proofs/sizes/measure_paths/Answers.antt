@@ -1,9 +1,7 @@
 -- `paths::sizes::measure_paths`: those passed are measured.
-use borrow.Author.Rules.{rules}
 use native.Mathlib.Omega.{arith}
 use native.Mathlib.Numerals.{add-one}
 use mathlib.Core.Path.{◌≡◌, sym, ap, ◌∙◌, subst}
-use Prim.Native.Nat.{◌-◌, ◌*◌, ◌≤◌}
 use lib.ListN.{length, take, get_or}
 use lib.Seq.{take-length}
 use Rattle.paper.specs.Lists.{every}

@@ -1,16 +1,10 @@
 -- `paths::sizes::measure_paths`: those passed are measured.
-use borrow.Author.Rules.{rules}
-use native.Mathlib.Omega.{arith}
-use native.Mathlib.Numerals.{add-one}
-use mathlib.Core.Path.{◌≡◌, sym, ap, ◌∙◌, subst}
+use mathlib.Core.Path.{◌≡◌}
 use Prim.Native.Nat.{◌-◌, ◌*◌, ◌≤◌}
-use lib.ListN.{length, take, get_or}
-use lib.Seq.{take-length}
+use lib.ListN.{length, take}
 use Rattle.paper.specs.Lists.{every}
 use Rattle.paper.specs.Level.{leaves_in}
-use Rattle.paper.specs.Shows as P
-use Rattle.paths.specs.Paths.{asked_of, wanted, free_for, path_bytes, Measured}
-use Rattle.paths.proofs.Asked.{wanted-back, bytes-none, free-none, sum_more}
+use Rattle.paths.specs.Paths.{asked_of, free_for, path_bytes}
 use Rattle.paths.proofs.sizes.measure_paths.Given as goal
 
 abbrev pub invariant-loop-i : goal.invariant-loop-i

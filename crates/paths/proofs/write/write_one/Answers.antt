@@ -1,5 +1,4 @@
 -- `paths::write::write_one`: the place says which tree.
-use borrow.Author.Rules.{rules}
 use mathlib.Core.Path.{◌≡◌, sym, ap, ◌∙◌}
 use lib.ListN.{length}
 use Rattle.paper.specs.Level.{leaves_in}

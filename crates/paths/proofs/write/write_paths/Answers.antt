@@ -1,9 +1,7 @@
 -- `paths::write::write_paths`: those passed are written.
-use borrow.Author.Rules.{rules}
 use native.Mathlib.Omega.{arith}
 use native.Mathlib.Numerals.{add-one}
 use mathlib.Core.Path.{◌≡◌, refl, ap, ◌∙◌, subst}
-use Prim.Native.Nat.{◌-◌, ◌≤◌}
 use lib.ListN.{length, take, get_or}
 use lib.Seq.{take-length}
 use Rattle.paper.specs.Fields.{path_field}

@@ -1,6 +1,5 @@
 -- `plan::history::history_paths` adds up the rows: n versions, the numbers below the power of two above n, and the markers. Assumes nothing.
 use native.Mathlib.Omega.{arith}
-use borrow.Author.Rules.{rules}
 use Rattle.paper.proofs.Asked.{by_most}
 use Rattle.plan.proofs.Markers.{Shifted, shifted}
 use Rattle.plan.proofs.Rows.{asked-length}

@@ -1,7 +1,6 @@
 -- `plan::history::markers_by` cuts the number of markers at 10, as min(9, floor(log2 T)) does. Assumes nothing.
 use mathlib.Core.Path.{◌∙◌}
 use native.Mathlib.Omega.{arith}
-use borrow.Author.Rules.{rules}
 use Rattle.plan.proofs.Markers.{by-few, by-many}
 use Rattle.plan.proofs.history.markers_by.Goals as goal
 

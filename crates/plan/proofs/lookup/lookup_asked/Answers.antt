@@ -1,7 +1,6 @@
 -- `plan::lookup::lookup_asked` answers what stands at place i of the list of one or of three. Assumes nothing.
 use mathlib.Core.Path.{◌≡◌, sym, ap, ◌∙◌}
 use native.Mathlib.Omega.{arith}
-use borrow.Author.Rules.{rules}
 use lib.ListN.{length, get_or-eq_default}
 use Rattle.paper.specs.Shows.{missing, in_all}
 use Rattle.paper.specs.Lookup.{lookup_asked}

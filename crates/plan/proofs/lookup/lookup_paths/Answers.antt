@@ -1,7 +1,6 @@
 -- `plan::lookup::lookup_paths` answers the number of paths: one for version 0, three for any other. Assumes nothing.
 use mathlib.Core.Path.{sym, ap}
 use native.Mathlib.Omega.{arith}
-use borrow.Author.Rules.{rules}
 use lib.ListN.{length}
 use Rattle.plan.proofs.Rows.{lookup-some}
 use Rattle.plan.proofs.lookup.lookup_paths.Goals as goal

@@ -1,5 +1,4 @@
 -- `publish::publishing::advanced`: both sums.
-use borrow.Author.Rules.{rules}
 use native.Mathlib.Numerals.{add-one}
 use Rattle.publish.proofs.publishing.advanced.Goals as goal
 

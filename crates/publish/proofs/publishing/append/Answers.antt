@@ -1,5 +1,4 @@
 -- `publish::publishing::append`: the records and the head, each in its place.
-use borrow.Author.Rules.{rules}
 use native.Mathlib.Numerals.{add-one}
 use mathlib.Core.Path.{◌∙◌}
 use Rattle.publish.proofs.publishing.append.Goals as goal

@@ -1,5 +1,4 @@
 -- `publish::publishing::publish`: a refusal leaves all as it was; otherwise the records and the head are laid where they belong.
-use borrow.Author.Rules.{rules}
 use native.Mathlib.Omega.{arith}
 use mathlib.Core.Path.{sym, ◌∙◌}
 use Prim.Native.Nat.{◌*◌, ◌/◌, ◌≤◌}

@@ -4,7 +4,6 @@ use native.Mathlib.Omega.{arith}
 use mathlib.Core.Path.{sym}
 use Prim.Native.Nat.{◌+◌, ◌*◌}
 use lib.ListN.{length}
-use borrow.Author.Rules.{rules}
 use Rattle.publish.proofs.testing.has_room.Goals as goal
 
 -- src/testing.rt:55:9

@@ -1,5 +1,4 @@
 -- `publish::testing::input_good`: the tests one after the other.
-use borrow.Author.Rules.{rules}
 use borrow.Author.Tests.{not-true, not-false, eqb-true}
 use native.Mathlib.Omega.{arith}
 use mathlib.Core.Path.{sym, ◌∙◌}

@@ -1,6 +1,5 @@
 -- `publish::testing::refusal`: the tests of both tables, and then those of the batch.
 use borrow.Author.Rules.{rules}
-use borrow.Author.Tests.{not-true, not-false}
 use native.Mathlib.Omega.{arith}
 use mathlib.Core.Path.{sym, ◌∙◌}
 use Rattle.ranges.proofs.Slices.{bytewise}

@@ -1,5 +1,4 @@
 -- `publish::weigh::weigh`: the tests before the last one, the last one, and what they leave.
-use borrow.Author.Rules.{rules}
 use native.Mathlib.Omega.{arith}
 use mathlib.Core.Path.{ap}
 use Rattle.publish.specs.Weighed.{Laid}

@@ -1,5 +1,4 @@
 -- `results::handset::audit_result`: an audit's answer, case by case.
-use borrow.Author.Rules.{rules}
 use mathlib.Core.Path.{sym, ap}
 use Rattle.results.specs.Results.{audit_result}
 use Rattle.results.proofs.handset.audit_result.Goals as goal

@@ -1,5 +1,4 @@
 -- `results::handset::history_result`: a history's answer, case by case.
-use borrow.Author.Rules.{rules}
 use mathlib.Core.Path.{sym, ap}
 use Rattle.results.specs.Results.{history_result}
 use Rattle.results.proofs.handset.history_result.Goals as goal

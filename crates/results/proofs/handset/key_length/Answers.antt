@@ -1,5 +1,4 @@
 -- `results::handset::key_length`: the byte, or none where the proof ends before it.
-use borrow.Author.Rules.{rules}
 use mathlib.Core.Path.{sym}
 use native.Mathlib.Omega.{arith}
 use lib.ListN.{drop_of_length-le}

@@ -1,5 +1,4 @@
 -- `results::handset::lookup_result`: a lookup's answer, case by case.
-use borrow.Author.Rules.{rules}
 use mathlib.Core.Path.{sym, ap, ◌∙◌}
 use Rattle.results.specs.Results.{lookup_result}
 use Rattle.results.proofs.handset.lookup_result.Goals as goal

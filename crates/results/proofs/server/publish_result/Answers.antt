@@ -1,5 +1,4 @@
 -- `results::server::publish_result`: publishing's answer, case by case.
-use borrow.Author.Rules.{rules}
 use mathlib.Core.Path.{sym, ap}
 use Rattle.results.specs.Results.{publish_result}
 use Rattle.results.proofs.server.publish_result.Goals as goal

@@ -1,5 +1,4 @@
 -- `results::server::start_result`: start's answer, case by case.
-use borrow.Author.Rules.{rules}
 use mathlib.Core.Path.{sym, ap}
 use Rattle.results.specs.Results.{start_result}
 use Rattle.results.proofs.server.start_result.Goals as goal

@@ -1,5 +1,4 @@
 -- `results::server::write_result`: a writer's answer, case by case.
-use borrow.Author.Rules.{rules}
 use mathlib.Core.Path.{sym, ap}
 use Rattle.results.specs.Results.{write_result}
 use Rattle.results.proofs.server.write_result.Goals as goal

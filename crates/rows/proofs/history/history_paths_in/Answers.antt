@@ -1,5 +1,4 @@
 -- `rows::history::history_paths_in`: as many numbers as the row goes through.
-use borrow.Author.Rules.{rules}
 use native.Mathlib.Omega.{arith}
 use mathlib.Core.Path.{◌≡◌, sym, ap, ◌∙◌}
 use Prim.Native.Nat.{ℕ}

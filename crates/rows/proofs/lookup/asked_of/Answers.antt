@@ -1,5 +1,4 @@
 -- `rows::lookup::asked_of`: the version and the number of the row say what is asked.
-use borrow.Author.Rules.{rules}
 use native.Mathlib.Omega.{arith}
 use mathlib.Core.Path.{◌∙◌}
 use Prim.Native.Nat.{◌≤◌}

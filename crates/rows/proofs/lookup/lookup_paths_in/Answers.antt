@@ -1,5 +1,4 @@
 -- `rows::lookup::lookup_paths_in`: past the last path there is none.
-use borrow.Author.Rules.{rules}
 use native.Mathlib.Omega.{arith}
 use mathlib.Core.Path.{sym, ap}
 use lib.ListN.{length}

@@ -1,7 +1,5 @@
 -- `rows::lookup::lookup_row`: a row is one path, or none.
-use borrow.Author.Rules.{rules}
 use native.Mathlib.Omega.{arith}
-use Rattle.walks.specs.Walk.{walks}
 use Rattle.runs.proofs.Going.{used-ready, walks-none, walks-one}
 use Rattle.rows.proofs.Order.{lookup-none}
 use Rattle.rows.proofs.lookup.lookup_row.Goals as goal

@@ -1,5 +1,4 @@
 -- `runs::leaves::epoch_behind`: the path stands k times on from the first.
-use borrow.Author.Rules.{rules}
 use Rattle.runs.proofs.Cursors.{leaf-epoch}
 use Rattle.runs.proofs.leaves.epoch_behind.Goals as goal
 

@@ -2,7 +2,6 @@
 use borrow.Author.Rules.{rules}
 use native.Mathlib.Omega.{arith}
 use mathlib.Core.Path.{◌≡◌, ap, ◌∙◌}
-use Prim.Native.Nat.{◌-◌, ◌≤◌}
 use Rattle.runs.specs.Runs.{place_at}
 use Rattle.runs.proofs.Cursors.{place_none, place-next}
 use Rattle.runs.proofs.leaves.past.Goals as goal

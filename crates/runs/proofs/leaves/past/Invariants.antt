@@ -1,10 +1,7 @@
 -- `runs::leaves::past`: with each turn the place moves on by a path.
-use borrow.Author.Rules.{rules}
-use native.Mathlib.Omega.{arith}
-use mathlib.Core.Path.{◌≡◌, ap, ◌∙◌}
+use mathlib.Core.Path.{◌≡◌}
 use Prim.Native.Nat.{◌-◌, ◌≤◌}
 use Rattle.runs.specs.Runs.{place_at}
-use Rattle.runs.proofs.Cursors.{place_none, place-next}
 use Rattle.runs.proofs.leaves.past.Given as goal
 
 abbrev pub invariant-loop : goal.invariant-loop

@@ -1,11 +1,7 @@
 -- `runs::runs::absent`: what is left of the row decides.
-use borrow.Author.Rules.{rules}
-use native.Mathlib.Omega.{arith}
-use mathlib.Core.Path.{ap, ◌∙◌}
 use Prim.Native.Nat.{◌-◌}
-use Rattle.ranges.proofs.Slices.{bytewise}
 use Rattle.runs.specs.Runs.{lack, place_by}
-use Rattle.runs.proofs.Going.{Going, going-starts, going-ready, going_on, going-ends}
+use Rattle.runs.proofs.Going.{Going}
 use Rattle.runs.proofs.runs.absent.Given as goal
 
 abbrev pub invariant-loop-i : goal.invariant-loop-i

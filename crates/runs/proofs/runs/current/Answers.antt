@@ -1,5 +1,4 @@
 -- `runs::runs::current`: without versions nothing is asked.
-use borrow.Author.Rules.{rules}
 use native.Mathlib.Omega.{arith}
 use Rattle.runs.proofs.Going.{used-ready, no-current, some-current}
 use Rattle.runs.proofs.runs.current.Goals as goal

@@ -1,12 +1,7 @@
 -- `runs::runs::markers`: what is left of the row decides, and version 2^j stands behind 2^j - 1 others.
-use borrow.Author.Rules.{rules}
-use native.Mathlib.Omega.{arith}
-use mathlib.Core.Path.{◌≡◌, ap, ◌∙◌}
-use Prim.Native.Nat.{◌+◌, ◌-◌, ◌*◌, ◌%◌, ◌^◌}
-use Rattle.ranges.proofs.Slices.{bytewise}
-use Rattle.runs.specs.Runs.{ask_marker, epoch_from}
-use Rattle.runs.proofs.Going.{Going, going-starts, going-ready, going_on, going-ends}
-use Rattle.runs.proofs.Powers.{Power, power}
+use Prim.Native.Nat.{◌-◌}
+use Rattle.runs.specs.Runs.{ask_marker}
+use Rattle.runs.proofs.Going.{Going}
 use Rattle.runs.proofs.runs.markers.Given as goal
 
 abbrev pub invariant-loop-j : goal.invariant-loop-j

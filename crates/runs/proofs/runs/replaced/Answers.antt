@@ -1,11 +1,9 @@
 -- `runs::runs::replaced`: what is left of the row decides, and the place is that of the version after the one asked for.
-use borrow.Author.Rules.{rules}
 use native.Mathlib.Omega.{arith}
-use mathlib.Core.Path.{◌≡◌, ◌∙◌}
-use Prim.Native.Nat.{◌-◌}
+use mathlib.Core.Path.{◌∙◌}
 use Rattle.ranges.proofs.Slices.{bytewise}
-use Rattle.runs.specs.Runs.{ask_replaced, place_at}
-use Rattle.runs.proofs.Going.{Going, going-starts, going-ready, going_on, going-ends}
+use Rattle.runs.specs.Runs.{ask_replaced}
+use Rattle.runs.proofs.Going.{going-starts, going-ready, going_on, going-ends}
 use Rattle.runs.proofs.Cursors.{place_none, place-next, leaf-next, leaf-epoch}
 use Rattle.runs.proofs.runs.replaced.Goals as goal
 

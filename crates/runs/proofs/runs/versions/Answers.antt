@@ -1,13 +1,12 @@
 -- `runs::runs::versions`: what is left of the row decides; the places are those of the version's key and path, and the lowest
 -- epoch is one more than that of the version before.
-use borrow.Author.Rules.{rules}
 use native.Mathlib.Omega.{arith}
 use mathlib.Core.Path.{◌≡◌, refl, sym, ap, ◌∙◌, subst}
-use Prim.Native.Nat.{◌+◌, ◌-◌, ◌≤◌}
+use Prim.Native.Nat.{◌+◌, ◌-◌}
 use Rattle.ranges.proofs.Slices.{bytewise}
 use Rattle.shown.specs.Form.{ItemStands}
 use Rattle.runs.specs.Runs.{ask_version, item_at, place_at, epoch_from}
-use Rattle.runs.proofs.Going.{Going, going-starts, going-ready, going_on, going-ends}
+use Rattle.runs.proofs.Going.{going-starts, going-ready, going_on, going-ends}
 use Rattle.runs.proofs.Cursors.{place_none, item-none, epoch-none, item-next, leaf-next, leaf-epoch}
 use Rattle.runs.proofs.runs.versions.Goals as goal
 use Rattle.runs.proofs.runs.versions.Goals.{In-loop-i}

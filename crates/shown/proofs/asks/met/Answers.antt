@@ -1,5 +1,4 @@
 -- `shown::asks::met`: what is shown decides, by its case.
-use borrow.Author.Rules.{rules}
 use Rattle.shown.proofs.asks.met.Goals as goal
 
 pub returns-then-asked : goal.returns-then-asked

@@ -1,8 +1,7 @@
 -- `shown::asks::on_terms`: out of its range the epoch decides, and within it the commitment.
-use borrow.Author.Rules.{rules}
 use borrow.Author.Tests.{ltb-true, ltb-false}
 use native.Mathlib.Omega.{arith}
-use mathlib.Core.Logic.{inl, inr, ⊎_elim}
+use mathlib.Core.Logic.{inl, inr}
 use mathlib.Core.Bool.{and-true, and-false}
 use Rattle.fields.proofs.Flat.{inside, outside}
 use Rattle.shown.proofs.asks.on_terms.Goals as goal

@@ -1,5 +1,4 @@
 -- `shown::items::commitment_at`: the parts of the item are hashed where they stand.
-use borrow.Author.Rules.{rules}
 use mathlib.Core.Path.{◌∙◌}
 use Prim.Native.Nat.{◌+◌}
 use lib.ListN.{get_or}

@@ -1,9 +1,8 @@
 -- `shown::items::item_after`: each test is one of the layout's.
-use borrow.Author.Rules.{rules}
 use borrow.Author.Tests.{ltb-true, ltb-false}
 use native.Mathlib.Omega.{arith}
 use mathlib.Core.Path.{sym}
-use mathlib.Core.Logic.{inl, inr, ⊎_elim}
+use mathlib.Core.Logic.{inl, inr}
 use Rattle.ranges.proofs.Slices.{bytewise}
 use Rattle.shown.proofs.Keyed.{item-short, item-range, item-cut, item-after}
 use Rattle.shown.proofs.items.item_after.Goals as goal

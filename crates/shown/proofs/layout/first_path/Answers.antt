@@ -1,5 +1,4 @@
 -- `shown::layout::first_path`: keys and paths are read one behind the other, and the place behind the last is the end.
-use borrow.Author.Rules.{rules}
 use mathlib.Core.Path.{◌≡◌, sym, ◌∙◌}
 use Rattle.paper.specs.Bytes.{Bytewise}
 use Rattle.paper.specs.Layout.{times}

@@ -5,9 +5,9 @@ use native.Mathlib.Omega.{arith}
 use native.Mathlib.Nat.{sub-zero}
 use mathlib.Core.Path.{◌≡◌, refl, sym, ◌∙◌}
 use mathlib.Core.Bool.{true, false}
-use Prim.Native.Nat.{ℕ, ◌-◌, ◌≤◌}
+use Prim.Native.Nat.{ℕ}
 use lib.ListN.{length, drop}
-use Rattle.paper.specs.Layout.{Read, got, bad, times}
+use Rattle.paper.specs.Layout.{Read, got, bad}
 use Rattle.paper.specs.Fields.{path_field}
 use Rattle.paper.specs.Path as P
 use Rattle.paper.specs.Bytes.{Bytes, Bytewise}

@@ -1,5 +1,4 @@
 -- `shown::opened::head_hashes`: the opening stands at 6.
-use borrow.Author.Rules.{rules}
 use mathlib.Core.Path.{◌∙◌}
 use Rattle.shown.proofs.opened.head_hashes.Goals as goal
 

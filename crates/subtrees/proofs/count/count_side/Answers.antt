@@ -1,5 +1,4 @@
 -- `subtrees::count_side`: no record, or those below the root.
-use borrow.Author.Rules.{rules}
 use mathlib.Core.Path.{sym, ap}
 use lib.ListN.{length}
 use Rattle.subtrees.proofs.News.{no-trees}

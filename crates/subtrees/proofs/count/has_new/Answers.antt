@@ -1,13 +1,9 @@
 -- `subtrees::has_new`: the leaves passed were not new, so the rest decides.
 use borrow.Author.Rules.{rules}
 use native.Mathlib.Omega.{arith}
-use mathlib.Core.Path.{◌≡◌, refl, sym, ◌∙◌}
-use Prim.Native.Nat.{◌-◌, ◌≤◌}
-use lib.ListN.{drop}
+use mathlib.Core.Path.{refl, sym, ◌∙◌}
 use borrow.Author.Tests.{eq-eqb, ne_eqb}
-use Rattle.paper.specs.Lists.{some}
-use Rattle.paper.specs.Level.{leaves_in}
-use Rattle.subtrees.proofs.News.{new, none-new, this-new, rest-new}
+use Rattle.subtrees.proofs.News.{none-new, this-new, rest-new}
 use Rattle.subtrees.proofs.count.has_new.Goals as goal
 
 pub loop-i-init : goal.loop-i-init

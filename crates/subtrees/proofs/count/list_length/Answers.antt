@@ -1,5 +1,4 @@
 -- `subtrees::list_length`: the list is that of the left side and then that of the right one.
-use borrow.Author.Rules.{rules}
 use native.Mathlib.Omega.{arith}
 use mathlib.Core.Path.{◌≡◌, sym, ap, ap₂, ◌∙◌}
 use Prim.Native.Nat.{◌+◌, ◌*◌}

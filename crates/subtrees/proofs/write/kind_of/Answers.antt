@@ -1,5 +1,4 @@
 -- `subtrees::kind_of`: the epoch decides.
-use borrow.Author.Rules.{rules}
 use mathlib.Core.Path.{sym, ◌∙◌}
 use mathlib.Core.Bool.{true, false}
 use borrow.Author.Tests.{eq-eqb, ne_eqb}

@@ -1,5 +1,4 @@
 -- `subtrees::write_leaf`: kind, length, the leaf's bytes and the filling, one right behind the other.
-use borrow.Author.Rules.{rules}
 use native.Mathlib.Omega.{arith}
 use mathlib.Core.Path.{sym, ap, ◌∙◌}
 use lib.ListN.{length, length-set}

@@ -1,5 +1,4 @@
 -- `subtrees::write_list`: the count, the records of the left side, and those of the right one, one right behind the other.
-use borrow.Author.Rules.{rules}
 use native.Mathlib.Omega.{arith}
 use mathlib.Core.Path.{◌≡◌, sym, ap, ◌∙◌}
 use mathlib.Core.List.{◌++◌}

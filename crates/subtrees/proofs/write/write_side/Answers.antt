@@ -1,5 +1,4 @@
 -- `subtrees::write_side`: no record, or those below the root; its slots come before the spare one.
-use borrow.Author.Rules.{rules}
 use native.Mathlib.Omega.{arith}
 use mathlib.Core.Path.{sym}
 use Prim.Native.Nat.{◌-◌, ◌*◌}

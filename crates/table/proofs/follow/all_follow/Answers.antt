@@ -5,15 +5,13 @@ use native.Mathlib.Omega.{arith}
 use native.Mathlib.Numerals.{add-one}
 use mathlib.Core.Path.{◌≡◌, sym, ◌∙◌}
 use mathlib.Core.Bool.{true}
-use Prim.Native.Nat.{◌-◌, ◌≤◌}
 use lib.ListN.{length}
 use Rattle.paper.specs.Bytes.{Bytewise}
 use Rattle.record.specs.Places.{Stands}
 use Rattle.ranges.proofs.Slices.{bytewise}
-use Rattle.table.specs.Index.{Indexed, Unlinked}
 use Rattle.record_form.proofs.Formed.{formed, formed-stands}
 use Rattle.table.proofs.Walk.{stands-more}
-use Rattle.table.proofs.Shapes.{Passed, passed_none, passed-more, form-fails, rule-fails, all_pass}
+use Rattle.table.proofs.Shapes.{passed_none, passed-more, form-fails, rule-fails, all_pass}
 use Rattle.table.proofs.follow.all_follow.Goals as goal
 use Rattle.table.proofs.follow.all_follow.Goals.{At-loop-i, Else-not-in_form}
 

@@ -1,5 +1,4 @@
 -- `table::follow::in-order`: the record before decides whether epochs fall.
-use borrow.Author.Rules.{rules}
 use native.Mathlib.Omega.{arith}
 use mathlib.Core.Path.{sym, ap₂, ◌∙◌}
 use lib.Dec.{leb}

@@ -1,5 +1,4 @@
 -- `table::follow::runs_on`: the name's last record decides.
-use borrow.Author.Rules.{rules}
 use borrow.Author.Tests.{eq-eqb, ne_eqb}
 use native.Mathlib.Omega.{arith}
 use mathlib.Core.Path.{◌≡◌, sym, ap, ap₂, ◌∙◌}

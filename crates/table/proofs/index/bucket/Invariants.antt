@@ -1,12 +1,8 @@
 -- `table::index::bucket`: what is mixed so far and the bytes that are left decide.
-use borrow.Author.Rules.{rules}
-use native.Mathlib.Omega.{arith}
-use native.Mathlib.Nat.{mod-lt}
-use mathlib.Core.Path.{◌≡◌, refl, sym, ◌∙◌}
-use Prim.Native.Nat.{◌+◌, ◌-◌, ◌*◌, ◌≤◌, ◌<◌}
-use lib.ListN.{length, get_or, drop}
+use mathlib.Core.Path.{◌≡◌}
+use Prim.Native.Nat.{◌-◌, ◌≤◌, ◌<◌}
+use lib.ListN.{length, drop}
 use Rattle.table.specs.Index.{buckets, mixed, bucket_of}
-use Rattle.table.proofs.Last.{bucket-start, bucket-more, bucket-all}
 use Rattle.table.proofs.index.bucket.Given as goal
 
 abbrev pub invariant-loop-i : goal.invariant-loop-i

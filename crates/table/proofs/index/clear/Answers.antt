@@ -1,9 +1,9 @@
 -- `table::index::clear`: the elements passed are zero.
 use borrow.Author.Rules.{rules}
 use native.Mathlib.Omega.{arith}
-use mathlib.Core.Path.{◌≡◌, refl, ◌∙◌}
-use Prim.Native.Nat.{ℕ, ◌-◌, ◌≤◌, ◌<◌}
-use lib.ListN.{length, get_or, length-set}
+use mathlib.Core.Path.{refl, ◌∙◌}
+use Prim.Native.Nat.{◌<◌}
+use lib.ListN.{length, length-set}
 use Rattle.table.proofs.Walk.{cleared, clear-more}
 use Rattle.table.proofs.index.clear.Goals as goal
 

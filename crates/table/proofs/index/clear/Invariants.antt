@@ -1,10 +1,7 @@
 -- `table::index::clear`: the elements passed are zero.
-use borrow.Author.Rules.{rules}
-use native.Mathlib.Omega.{arith}
-use mathlib.Core.Path.{◌≡◌, refl, ◌∙◌}
+use mathlib.Core.Path.{◌≡◌}
 use Prim.Native.Nat.{ℕ, ◌-◌, ◌≤◌, ◌<◌}
-use lib.ListN.{length, get_or, length-set}
-use Rattle.table.proofs.Walk.{cleared, clear-more}
+use lib.ListN.{length, get_or}
 use Rattle.table.proofs.index.clear.Given as goal
 
 abbrev pub invariant-loop-i : goal.invariant-loop-i

@@ -1,5 +1,4 @@
 -- `table::index::last_of`: a walk along the name's bucket.
-use borrow.Author.Rules.{rules}
 use native.Mathlib.Omega.{arith}
 use mathlib.Core.Path.{◌≡◌, sym, ap, ◌∙◌}
 use Prim.Native.Nat.{◌-◌, ◌<◌}

@@ -1,5 +1,4 @@
 -- `walks::places::label_of`: each place has the label of its kind and number.
-use borrow.Author.Rules.{rules}
 use Rattle.walks.proofs.places.label_of.Goals as goal
 
 pub returns-in-InAll : goal.returns-in-InAll

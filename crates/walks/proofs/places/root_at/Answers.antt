@@ -1,5 +1,4 @@
 -- `walks::places::root_at`: each place is in the tree whose root is read.
-use borrow.Author.Rules.{rules}
 use Rattle.walks.proofs.places.root_at.Goals as goal
 
 pub returns-in-InAll : goal.returns-in-InAll

@@ -1,5 +1,4 @@
 -- `walks::step::step`: the path as it was taken decides, root before rule.
-use borrow.Author.Rules.{rules}
 use borrow.Author.Tests.{not-true, not-false}
 use native.Mathlib.Omega.{arith}
 use mathlib.Core.Path.{sym, ◌∙◌, subst}

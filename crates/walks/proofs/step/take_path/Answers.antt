@@ -1,5 +1,4 @@
 -- `walks::step::take_path`: a refusal stays, and a walk goes on by a step.
-use borrow.Author.Rules.{rules}
 use Rattle.walks.proofs.step.take_path.Goals as goal
 
 pub step-requires : goal.step-requires

@@ -1,5 +1,4 @@
 -- `write_audit::trees::write_shaped`: tree *all* is grown, and then the other beside it.
-use borrow.Author.Rules.{rules}
 use borrow.Author.Tests.{not-true, not-false}
 use native.Mathlib.Omega.{arith}
 use mathlib.Core.Path.{sym, ◌∙◌}

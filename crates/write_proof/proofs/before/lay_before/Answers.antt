@@ -1,5 +1,4 @@
 -- `write_proof::before::lay_before`: front and keys, one behind the other.
-use borrow.Author.Rules.{rules}
 use mathlib.Core.Path.{◌∙◌}
 use Rattle.write_proof.specs.Judged.{over_sides}
 use Rattle.write_proof.proofs.Bytes.{before-laid, head-found, sides-wide}

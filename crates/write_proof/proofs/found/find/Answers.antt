@@ -1,5 +1,4 @@
 -- `write_proof::found::find`: both are those of the name's last record.
-use borrow.Author.Rules.{rules}
 use mathlib.Core.Path.{ap, ◌∙◌}
 use Rattle.write_proof.specs.Judged.{version_of, from_by}
 use Rattle.write_proof.proofs.Bytes.{last-stands}

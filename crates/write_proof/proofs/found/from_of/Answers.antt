@@ -1,5 +1,4 @@
 -- `write_proof::found::from_of`: the last record, unless it is a history.
-use borrow.Author.Rules.{rules}
 use native.Mathlib.Omega.{arith}
 use mathlib.Core.Path.{◌≡◌, sym, ap}
 use mathlib.Core.Bool.{false}

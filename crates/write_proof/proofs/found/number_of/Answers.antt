@@ -1,5 +1,4 @@
 -- `write_proof::found::number_of`: the record has the version.
-use borrow.Author.Rules.{rules}
 use native.Mathlib.Omega.{arith}
 use mathlib.Core.Path.{◌≡◌, sym, ap, ◌∙◌}
 use Prim.Native.Nat.{suc, ◌-◌}

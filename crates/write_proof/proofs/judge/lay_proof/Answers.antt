@@ -1,5 +1,4 @@
 -- `write_proof::judge::lay_proof`: the paths are measured, and the proof is laid if it has room.
-use borrow.Author.Rules.{rules}
 use borrow.Author.Tests.{not-true, not-false, leb-true, leb-false}
 use native.Mathlib.Omega.{arith}
 use mathlib.Core.Path.{◌≡◌, sym, ap, ap₂, ◌∙◌, subst}

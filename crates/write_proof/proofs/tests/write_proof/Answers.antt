@@ -1,5 +1,4 @@
 -- `write_proof::tests::write_proof`: the first tests refuse, or the rest remains.
-use borrow.Author.Rules.{rules}
 use mathlib.Core.Path.{sym, ◌∙◌, subst}
 use Rattle.paper.specs.Fields.{is_name}
 use Rattle.names.proofs.Named.{name-short}

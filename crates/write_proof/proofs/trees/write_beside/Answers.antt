@@ -1,5 +1,4 @@
 -- `write_proof::trees::write_beside`: tree *old* is grown, and the proof is laid over both.
-use borrow.Author.Rules.{rules}
 use borrow.Author.Tests.{not-true, not-false}
 use mathlib.Core.Path.{sym, ◌∙◌}
 use lib.Seq.{length-take-le}

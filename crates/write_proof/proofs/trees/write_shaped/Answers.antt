@@ -1,5 +1,4 @@
 -- `write_proof::trees::write_shaped`: tree *all* is grown, and then the other beside it.
-use borrow.Author.Rules.{rules}
 use borrow.Author.Tests.{not-true, not-false}
 use mathlib.Core.Path.{sym, ◌∙◌}
 use lib.Seq.{length-take-le}
