@@ -1,2 +1,0 @@
--- Laws of what is read of a request.
-pub mod Taken
