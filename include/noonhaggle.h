@@ -11,7 +11,7 @@
  *    during the call. Memory that is only read may overlap.
  *  - Stack: docs/SIZES.md says how much each function takes. A checker takes little; publish and the writers take megabytes.
  *  - The compiler's back end, and this header: at its end the compiler is asked whether each field lies where the archive has it, which
- *    wants 64-bit addresses. On Arm also what tools/archive says of it.
+ *    wants 64-bit addresses.
  *
  * Functions keep nothing between calls, so they may be called from several threads at once over different memory.
  */

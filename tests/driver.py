@@ -1,4 +1,4 @@
-"""Requests to the driver program: docs/DRIVER.md has the format. It is built by `rt check driver`."""
+"""Requests to the driver program: docs/DRIVER.md has the format. tools/build driver builds it."""
 import subprocess
 
 import runs
@@ -43,7 +43,7 @@ def call_request(call, values):
 
 
 def command():
-    return runs.command(PROGRAM)
+    return [PROGRAM]
 
 
 def answers(requests):

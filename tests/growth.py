@@ -2,8 +2,7 @@
 
 Each line is the driver program's user time for one request, the best of several runs, less what reading the request costs, which is measured
 on one that is refused at once (1: a name of no bytes, or an audit of epoch 0). Of publishing 256 updates, `shape` is what a request takes
-that is refused behind the shape test (9, a name twice). Run `rt check driver` first, which builds the program. On a machine that is no
-x86-64 it runs under an emulator, and its times say nothing.
+that is refused behind the shape test (9, a name twice). Run `tools/build driver` first, which builds the program.
 """
 import resource
 import subprocess

@@ -2,7 +2,6 @@
 import array
 import fcntl
 import os
-import platform
 import subprocess
 import termios
 import threading
@@ -13,19 +12,8 @@ PATIENCE = 60  # seconds
 
 
 def built(name):
-    """A program that `rt check` has built."""
-    return os.path.join(ROOT, "target", "bin", name)
-
-
-def command(program):
-    """How `rt` runs a program: with the kit's loader and C library, and its emulator where the machine is no x86-64."""
-    guide = subprocess.run(["rt", "doc"], capture_output=True, text=True, check=True).stdout.strip()
-    kit = os.path.dirname(os.path.dirname(guide))
-    tools = os.path.join(kit, "on", platform.machine(), "toolchain")
-    emulator = os.path.join(tools, "bin", "qemu-x86_64")
-    loader = os.path.join(tools, "lib", "ld-linux-x86-64.so.2")
-    run = [loader, "--library-path", os.path.join(tools, "lib"), program]
-    return [emulator] + run if os.access(emulator, os.X_OK) else run
+    """A program that `rt ci` or tools/build has built."""
+    return os.path.join(ROOT, "crates", name, "out", name)
 
 
 def started(words, **how):

@@ -5,7 +5,7 @@ instructions: `python3 tests/stack.py main`, `python3 tests/stack.py -p target/c
 A function's frame is what it pushes, what it subtracts from the stack pointer, and its return address. A large frame is taken page by page,
 in a loop whose end is reckoned in the register r11 first. A function's stack is its frame and the largest stack of a function that it calls.
 A function that calls itself is counted at the depth that its contract bounds: a recursion over the bits of labels at 256, with one call more
-where the last only ends it, that over a number's decimal digits at 10. Run `rt check driver` first; `objdump` must be on the path.
+where the last only ends it, that over a number's decimal digits at 10. Run `tools/build driver` first; `objdump` must be on the path.
 """
 import os
 import re
@@ -13,7 +13,7 @@ import subprocess
 import sys
 
 ROOT = os.path.dirname(os.path.dirname(os.path.abspath(__file__)))
-PROGRAM = os.path.join(ROOT, "target/bin/driver")
+PROGRAM = os.path.join(ROOT, "crates/driver/out/driver")
 if sys.argv[1:2] == ["-p"]:
     PROGRAM = sys.argv[2]
     del sys.argv[1:3]
@@ -47,7 +47,7 @@ for line in text.split("\n"):
         if pages:
             # the loop's own step, a page, is counted above
             frames[name] += int(pages.group(1), 16) - PAGE
-        call = re.search(r"\t(?:call|jmp) +[0-9a-f]+ <([^+>]*)>", line)
+        call = re.search(r"\t(?:call|jmp) +[0-9a-f]+ <([^+]*)>$", line)
         if call:
             calls[name].add(call.group(1))
 

@@ -14,8 +14,8 @@ from directory import Directory, label, sha
 NAME = b"ida"
 KEYS = [(b"first", bytes([7] * 32)), (b"second", bytes([8] * 32))]
 UNFOLDING = (
-    "F.be64 F.zeros F.pad F.parse F.digest be toBits bitsOf fromBits pack "
-    "leafString innerString nothingString headBytes headString labelString commitmentString"
+    "F.be64 F.zeros F.pad F.parse F.digest be to_bits bits_of from_bits pack "
+    "leaf_string inner_string nothing_string head_bytes head_string label_string commitment_string"
 )
 
 

@@ -27,7 +27,7 @@ def command(name):
         return [os.path.join(runs.ROOT, "target", "c", "native", name)]
     if sys.argv[1:] == ["aarch64"]:
         return ["qemu-aarch64", os.path.join(runs.ROOT, "target", "c", "aarch64", name)]
-    return runs.command(os.path.join(runs.ROOT, "target", "c", name))
+    return [os.path.join(runs.ROOT, "target", "c", name)]
 
 
 def sample():

@@ -1,4 +1,4 @@
-// What a handset links: the three checkers, and SHA-256.
+// What a handset calls: the three checkers, and SHA-256.
 ghost use Rattle.std.specs.Prelude.{◌≡◌};
 ghost use Rattle.fips.specs.Sha256 as F;
 ghost use Rattle.paper.specs.Labelling.{plain};
@@ -9,30 +9,26 @@ ghost use Rattle.results.specs.Results.{lookup_result, history_result, audit_res
 
 use results::{Audit, Digest, History, Lookup};
 
-#[unsafe(no_mangle)]
-pub extern "C" fn noonhaggle_check_lookup(head: &[u8], name: &[u8], proof: &[u8]) -> Lookup
+pub fn noonhaggle_check_lookup(head: &[u8], name: &[u8], proof: &[u8]) -> Lookup
     ensures { result ≡ lookup_result (check_lookup plain head.now name.now proof.now) proof.now }
 {
     results::lookup_result(lookup::check_lookup(head, name, proof), proof)
 }
 
-#[unsafe(no_mangle)]
-pub extern "C" fn noonhaggle_check_history(head: &[u8], name: &[u8], proof: &[u8]) -> History
+pub fn noonhaggle_check_history(head: &[u8], name: &[u8], proof: &[u8]) -> History
     ensures { result ≡ history_result (check_history plain head.now name.now proof.now) }
 {
     results::history_result(history::check_history(head, name, proof))
 }
 
-#[unsafe(no_mangle)]
-pub extern "C" fn noonhaggle_check_audit(old_head: &[u8], new_head: &[u8], proof: &[u8]) -> Audit
+pub fn noonhaggle_check_audit(old_head: &[u8], new_head: &[u8], proof: &[u8]) -> Audit
     ensures { result ≡ audit_result (check_audit old_head.now new_head.now proof.now) }
 {
     results::audit_result(audit::check_audit(old_head, new_head, proof))
 }
 
-#[unsafe(no_mangle)]
-pub extern "C" fn noonhaggle_sha256(bytes: &[u8]) -> Digest
-    ensures { result ≡ record { bytes = F.sha256 bytes.entry.now } }
+pub fn noonhaggle_sha256(bytes: &[u8]) -> Digest
+    ensures { result ≡ record { bytes = F.sha256 bytes.now } }
 {
     let digest = sha256::sha256(bytes);
     Digest { bytes: digest }

@@ -1,4 +1,4 @@
-// What a server links: start and publish, and the three writers. The state is a count and an epoch.
+// What a server calls: start and publish, and the three writers. The state is a count and an epoch.
 ghost use Rattle.std.specs.Prelude.{◌≡◌};
 ghost use Rattle.paper.specs.Labelling.{plain};
 ghost use Rattle.paper.specs.Publish as P;
@@ -8,28 +8,25 @@ ghost use Rattle.noonhaggle.specs.Left.{start_left, publish_left, write_left};
 use paper::State;
 use results::{Published, Written, write_result};
 
-#[unsafe(no_mangle)]
-pub extern "C" fn noonhaggle_start(heads: &mut [u8]) -> Published
-    ensures* { λ r. ⌜ record { result = r; heads = heads.new } ≡ start_left (P.start plain heads.old) ⌝ }
+pub fn noonhaggle_start(heads: &mut [u8]) -> Published
+    ensures { record { result = result; heads = heads.new } ≡ start_left (P.start plain heads.old) }
 {
     results::start_result(start::start(heads))
 }
 
-#[unsafe(no_mangle)]
-pub extern "C" fn noonhaggle_publish(
+pub fn noonhaggle_publish(
     records: &mut [u8],
     heads: &mut [u8],
     count: u32,
     epoch: u32,
     batch: &[u8],
 ) -> Published
-    ensures* { λ r. ⌜ record { result = r; records = records.new; heads = heads.new } ≡ publish_left (P.publish plain records.old heads.old (record { count = count; epoch = epoch }) batch.now) ⌝ }
+    ensures { record { result = result; records = records.new; heads = heads.new } ≡ publish_left (P.publish plain records.old heads.old (record { count = count; epoch = epoch }) batch.now) }
 {
     results::publish_result(publish::publish(records, heads, State { count, epoch }, batch))
 }
 
-#[unsafe(no_mangle)]
-pub extern "C" fn noonhaggle_write_lookup(
+pub fn noonhaggle_write_lookup(
     records: &[u8],
     heads: &[u8],
     count: u32,
@@ -38,13 +35,12 @@ pub extern "C" fn noonhaggle_write_lookup(
     at: u32,
     out: &mut [u8],
 ) -> Written
-    ensures* { λ r. ⌜ record { result = r; out = out.new } ≡ write_left (write_lookup plain records.now heads.now (record { count = count; epoch = epoch }) out.old name.now at) ⌝ }
+    ensures { record { result = result; out = out.new } ≡ write_left (write_lookup plain records.now heads.now (record { count = count; epoch = epoch }) out.old name.now at) }
 {
     write_result(write_proof::write_lookup(records, heads, State { count, epoch }, name, at, out))
 }
 
-#[unsafe(no_mangle)]
-pub extern "C" fn noonhaggle_write_history(
+pub fn noonhaggle_write_history(
     records: &[u8],
     heads: &[u8],
     count: u32,
@@ -53,13 +49,12 @@ pub extern "C" fn noonhaggle_write_history(
     at: u32,
     out: &mut [u8],
 ) -> Written
-    ensures* { λ r. ⌜ record { result = r; out = out.new } ≡ write_left (write_history plain records.now heads.now (record { count = count; epoch = epoch }) out.old name.now at) ⌝ }
+    ensures { record { result = result; out = out.new } ≡ write_left (write_history plain records.now heads.now (record { count = count; epoch = epoch }) out.old name.now at) }
 {
     write_result(write_proof::write_history(records, heads, State { count, epoch }, name, at, out))
 }
 
-#[unsafe(no_mangle)]
-pub extern "C" fn noonhaggle_write_audit(
+pub fn noonhaggle_write_audit(
     records: &[u8],
     heads: &[u8],
     count: u32,
@@ -67,7 +62,7 @@ pub extern "C" fn noonhaggle_write_audit(
     at: u32,
     out: &mut [u8],
 ) -> Written
-    ensures* { λ r. ⌜ record { result = r; out = out.new } ≡ write_left (write_audit plain records.now heads.now (record { count = count; epoch = epoch }) out.old at) ⌝ }
+    ensures { record { result = result; out = out.new } ≡ write_left (write_audit plain records.now heads.now (record { count = count; epoch = epoch }) out.old at) }
 {
     write_result(write_audit::write_audit(records, heads, State { count, epoch }, at, out))
 }

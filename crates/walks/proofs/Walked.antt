@@ -207,8 +207,10 @@ module _ (s name : Bytes) where
           (λ ps. over refuse answer (walks s name l (path_on s at) (stepped s name a at d))
           ≡ verdict refuse (answer (d + length (path_strings plain name (map asked_of (a ∷ l)) ps))) (path_tests plain name (head_in s) terms (map asked_of (a ∷ l)) ps))
           f.is
-          (rw (path-moves s at f.next x f.room f.reads, stepped-at a x _ at d u.0 f.reads, ← (count-step a l x f.others d))
-          (by x f.next _ again (rooted a x) (meets plain name terms (asked_of a) x)))
+          (subst
+          (λ n. over refuse answer (walks s name l (path_on s at) (stepped s name a at d)) ≡ verdict refuse (answer n) (path_tests plain name (head_in s) terms (map asked_of (a ∷ l)) (x ∷ f.others)))
+          (count-step a l x f.others d)
+          (rw (path-moves s at f.next x f.room f.reads, stepped-at a x _ at d u.0 f.reads) (by x f.next _ again (rooted a x) (meets plain name terms (asked_of a) x))))
         where
           by : (x : P.Path) (next : ℕ) (v : A) → over refuse answer (walks s name l next (On (d + length x.steps + 2))) ≡ v → (b c : Bool)
               → over refuse answer (walks s name l next (cond b (cond c (On (d + length x.steps + 2)) (Refused RULE)) (Refused ROOT))) ≡ cond b (cond c v (refuse RULE)) (refuse ROOT)

@@ -1,0 +1,71 @@
+-- `front::keys::items_size`: the keys among the records passed are measured.
+use borrow.Author.Rules.{rules}
+use native.Mathlib.Omega.{arith}
+use native.Mathlib.Numerals.{add-one}
+use mathlib.Core.Path.{◌≡◌, sym, ap, ◌∙◌}
+use Prim.Native.Nat.{suc, ◌+◌, ◌-◌, ◌*◌, ◌≤◌}
+use lib.ListN.{length}
+use Rattle.paper.specs.Labelling.{plain}
+use Rattle.paper.specs.Write.{versions_by}
+use Rattle.record.specs.Places.{records_in}
+use Rattle.front.specs.Front.{item_bytes, items_from}
+use Rattle.front.proofs.Items.{item-most, bytes-start, long-yes, length-yes, long-no, bytes-no}
+use Rattle.front.proofs.keys.items_size.Goals as goal
+
+-- src/keys.rt:44:5
+pub loop-i-init : goal.loop-i-init
+loop-i-init c =
+    (c.requires.1, omega arith, omega arith, sym (ap length (bytes-start c.args.records.now c.args.name.now c.args.epoch c.args.from)))
+
+-- src/keys.rt:45:12
+pub is_own-requires : goal.is_own-requires
+is_own-requires c = c.requires.0 _ c.loop-i-test.true
+
+-- src/keys.rt:46:21
+pub item_size-size-requires : goal.item_size-size-requires
+item_size-size-requires c = c.requires.0 _ c.loop-i-test.true
+
+-- src/keys.rt:46:13
+pub overflow_add-size : goal.overflow_add-size
+overflow_add-size c =
+    let stands = c.requires.0 _ c.loop-i-test.true in
+    let h = stands.reach in
+    let most = item-most c.args.records.now c.loop-i.i stands in
+    let b : c.loop-i.size + c.item_size-size.result ≤ suc c.loop-i.i * 168 = omega (arith, c.loop-i.invariant.1, most, c.item_size-size.ensures) in
+    search rules
+
+-- src/keys.rt:44:5
+pub loop-i-preserved-then-is_own : goal.loop-i-preserved-then-is_own
+loop-i-preserved-then-is_own c =
+    let a = c.args in
+    let s = a.records.now in
+    let i = c.loop-i.i in
+    let h = c.loop-i-test.true in
+    let own = sym c.is_own.ensures ∙ c.if-is_own.true in
+    let long = c.loop-i.invariant.2 in
+    let more = length-yes s a.name.now a.epoch a.from i long own in (
+      omega (arith, h),
+      omega (arith, c.loop-i.invariant.1, c.item_size-size.ensures, item-most s i (c.requires.0 i h)),
+      rw (add-one i) (long-yes s a.name.now a.epoch a.from i long own),
+      rw (add-one i) (omega (arith, c.loop-i.invariant.3, c.item_size-size.ensures, more)),
+    )
+
+-- src/keys.rt:44:5
+pub loop-i-preserved : goal.loop-i-preserved
+loop-i-preserved c =
+    let a = c.args in
+    let s = a.records.now in
+    let i = c.loop-i.i in
+    let own = sym c.is_own.ensures ∙ c.if-is_own.false in
+    let long = c.loop-i.invariant.2 in (
+      omega (arith, c.loop-i-test.true),
+      omega (arith, c.loop-i.invariant.1),
+      rw (add-one i) (long-no s a.name.now a.epoch a.from i long own),
+      rw (add-one i) (c.loop-i.invariant.3 ∙ sym (ap length (bytes-no s a.name.now a.epoch a.from i long own))),
+    )
+
+-- src/keys.rt:38:1
+pub returns : goal.returns
+returns c =
+    let e : c.loop-i.i ≡ c.args.count = omega (arith, c.loop-i.invariant.0, c.loop-i-test.false) in
+    rw (← e) c.loop-i.invariant.3

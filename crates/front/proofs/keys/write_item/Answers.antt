@@ -1,0 +1,51 @@
+-- `front::keys::write_item`: length, key and opening.
+use borrow.Author.Rules.{rules}
+use native.Mathlib.Omega.{arith}
+use mathlib.Core.Path.{refl, ◌∙◌}
+use Prim.Native.Nat.{◌+◌, ◌≤◌}
+use lib.ListN.{length, length-set}
+use Rattle.gather.proofs.Leaves.{key-few}
+use Rattle.front.proofs.Items.{read-size, item-wrote}
+use Rattle.front.proofs.keys.write_item.Goals as goal
+use Rattle.front.proofs.keys.write_item.Goals.{After-key_at-key}
+
+room : (c : After-key_at-key) → c.args.at + 33 + length c.key_at-key.result.now ≤ length c.args.out.now
+room c =
+    let a = c.args in
+    omega (arith, c.requires.1, read-size a.records.now a.i c.requires.0 c.key_at-key.result.now _ c.key_at-key.ensures.bytes refl)
+
+few : (c : After-key_at-key) → length c.key_at-key.result.now ≤ 64
+few c = rw c.key_at-key.ensures.bytes (key-few c.args.records.now c.args.i)
+
+-- src/keys.rt:31:15
+pub overflow_cast-out : goal.overflow_cast-out
+overflow_cast-out c = omega (arith, few c)
+
+-- src/keys.rt:31:5
+pub bounds-out-at : goal.bounds-out-at
+bounds-out-at c = omega (arith, room c)
+
+-- src/keys.rt:32:5
+pub put-requires : goal.put-requires
+put-requires c =
+    omega (arith, room (goal.at.put-requires c).After-key_at-key, length-set c.args.out.now c.args.at (length c.key_at-key.result.now))
+
+-- src/keys.rt:33:5
+pub put-requires-2 : goal.put-requires-2
+put-requires-2 c =
+    omega (arith, room (goal.at.put-requires-2 c).After-key_at-key, length-set c.args.out.now c.args.at (length c.key_at-key.result.now), c.put.auto.dst, c.opening_at.type_inv)
+
+-- src/keys.rt:34:5
+pub overflow_add-result-2 : goal.overflow_add-result-2
+overflow_add-result-2 c = let h = room (goal.at.overflow_add-result-2 c).After-key_at-key in search rules
+
+-- src/keys.rt:25:1
+pub shape_of-out : goal.shape_of-out
+shape_of-out c =
+    c.put-2.auto.dst ∙ c.put.auto.dst ∙ length-set c.args.out.now c.args.at (length c.key_at-key.result.now)
+
+-- src/keys.rt:25:1
+pub returns : goal.returns
+returns c =
+    let a = c.args in
+    item-wrote a.records.now a.i c.requires.0 c.key_at-key.result.now c.opening_at.result c.key_at-key.ensures.bytes c.opening_at.ensures a.out.now c.put.new.dst c.put-2.new.dst a.at c.requires.1 c.put.ensures c.put-2.ensures

@@ -1,0 +1,22 @@
+-- `front::keys::write_items`: the keys among the records passed are written.
+use borrow.Author.Rules.{rules}
+use native.Mathlib.Omega.{arith}
+use native.Mathlib.Numerals.{add-one}
+use mathlib.Core.Path.{◌≡◌, refl, sym, ◌∙◌, subst}
+use Prim.Native.Nat.{◌-◌, ◌≤◌}
+use lib.ListN.{length}
+use Rattle.paper.specs.Labelling.{plain}
+use Rattle.paper.specs.Write.{versions_by}
+use Rattle.record.specs.Places.{records_in}
+use Rattle.path_fields.specs.Written.{Wrote}
+use Rattle.front.specs.Front.{item_bytes, items_from}
+use Rattle.front.proofs.Items.{wrote-start, long-yes, wrote-yes, long-no, bytes-no, bytes-room}
+use Rattle.front.proofs.keys.write_items.Given as goal
+
+abbrev pub invariant-loop-i : goal.invariant-loop-i
+invariant-loop-i l =
+    (l.i ≤ l.count) × (length l.out ≡ length l.initial.out) × (length (versions_by plain l.name l.epoch (records_in l.from l.records)) ≤ length (versions_by plain l.name l.epoch (records_in l.i l.records)))
+    × Wrote l.initial.out l.at (item_bytes (items_from l.records l.name l.epoch l.from l.i)) l.out l.next
+
+abbrev pub decreases-loop-i : goal.decreases-loop-i
+decreases-loop-i l = l.count - l.i

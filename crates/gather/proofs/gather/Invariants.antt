@@ -1,0 +1,18 @@
+-- `gather::gather`: the records passed have given their leaves.
+use borrow.Author.Rules.{rules}
+use native.Mathlib.Omega.{arith}
+use native.Mathlib.Numerals.{add-one}
+use mathlib.Core.Path.{◌≡◌, refl, ◌∙◌}
+use Prim.Native.Nat.{◌+◌, ◌-◌, ◌*◌, ◌≤◌}
+use lib.ListN.{length}
+use Rattle.record.specs.Places.{record_at, records_in}
+use Rattle.gather.specs.Gathered.{leaves_by, Gained}
+use Rattle.gather.proofs.Row.{gain-none, gain-more}
+use Rattle.gather.proofs.Leaves.{by-none, by-snoc, few-leaves}
+use Rattle.gather.proofs.gather.Given as goal
+
+abbrev pub invariant-loop-i : goal.invariant-loop-i
+invariant-loop-i l = (l.i ≤ l.count) × (length l.row ≡ length l.initial.row) × (l.m ≤ l.n + 2 * l.i) × Gained l.initial.row l.row l.n l.m (leaves_by l.old l.epoch (records_in l.i l.records))
+
+abbrev pub decreases-loop-i : goal.decreases-loop-i
+decreases-loop-i l = l.count - l.i

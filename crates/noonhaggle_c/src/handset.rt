@@ -1,0 +1,38 @@
+// What a handset links: the three checkers, and SHA-256.
+ghost use Rattle.std.specs.Prelude.{◌≡◌};
+ghost use Rattle.fips.specs.Sha256 as F;
+ghost use Rattle.paper.specs.Labelling.{plain};
+ghost use Rattle.paper.specs.Lookup.{check_lookup};
+ghost use Rattle.paper.specs.History.{check_history};
+ghost use Rattle.paper.specs.Audit.{check_audit};
+ghost use Rattle.results.specs.Results.{lookup_result, history_result, audit_result};
+
+use results::{Audit, Digest, History, Lookup};
+
+#[unsafe(no_mangle)]
+pub extern "C" fn noonhaggle_check_lookup(head: &[u8], name: &[u8], proof: &[u8]) -> Lookup
+    ensures { result ≡ lookup_result (check_lookup plain head.now name.now proof.now) proof.now }
+{
+    noonhaggle::noonhaggle_check_lookup(head, name, proof)
+}
+
+#[unsafe(no_mangle)]
+pub extern "C" fn noonhaggle_check_history(head: &[u8], name: &[u8], proof: &[u8]) -> History
+    ensures { result ≡ history_result (check_history plain head.now name.now proof.now) }
+{
+    noonhaggle::noonhaggle_check_history(head, name, proof)
+}
+
+#[unsafe(no_mangle)]
+pub extern "C" fn noonhaggle_check_audit(old_head: &[u8], new_head: &[u8], proof: &[u8]) -> Audit
+    ensures { result ≡ audit_result (check_audit old_head.now new_head.now proof.now) }
+{
+    noonhaggle::noonhaggle_check_audit(old_head, new_head, proof)
+}
+
+#[unsafe(no_mangle)]
+pub extern "C" fn noonhaggle_sha256(bytes: &[u8]) -> Digest
+    ensures { result ≡ record { bytes = F.sha256 bytes.now } }
+{
+    noonhaggle::noonhaggle_sha256(bytes)
+}

@@ -1,0 +1,19 @@
+-- `own::is_own`: the epoch and the name are looked at.
+use borrow.Author.Rules.{rules}
+use native.Mathlib.Omega.{arith}
+use mathlib.Core.Path.{sym, ap, ◌∙◌}
+use Rattle.paper.specs.Bytes.{same}
+use Rattle.own.proofs.Versions.{own-later, own-then}
+use Rattle.own.proofs.is_own.Goals as goal
+
+-- src/lib.rt:21:9
+pub returns-then-epoch-epoch_at : goal.returns-then-epoch-epoch_at
+returns-then-epoch-epoch_at c =
+    let a = c.args in
+    sym (own-later a.records.now a.name.now a.epoch a.i (omega (arith, c.epoch_at.ensures, c.if-epoch-epoch_at.true)))
+
+-- src/lib.rt:16:1
+pub returns : goal.returns
+returns c =
+    let a = c.args in
+    c.same.ensures ∙ ap (λ x. same x a.name.now) c.name_at.ensures.bytes ∙ sym (own-then a.records.now a.name.now a.epoch a.i (omega (arith, c.epoch_at.ensures, c.if-epoch-epoch_at.false)))

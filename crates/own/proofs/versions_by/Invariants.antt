@@ -1,0 +1,19 @@
+-- `own::versions_by`: the versions among the records passed are counted.
+use borrow.Author.Rules.{rules}
+use native.Mathlib.Omega.{arith}
+use native.Mathlib.Numerals.{add-one}
+use mathlib.Core.Path.{◌≡◌, sym, ap, ◌∙◌}
+use mathlib.Core.List.{[], ◌∷◌}
+use Prim.Native.Nat.{◌-◌, ◌≤◌}
+use lib.ListN.{length, length-append}
+use Rattle.paper.specs.Labelling.{plain}
+use Rattle.paper.specs.Write.{versions_by}
+use Rattle.record.specs.Places.{record_at, records_in}
+use Rattle.own.proofs.Versions.{versions-zero, versions-yes, versions-no}
+use Rattle.own.proofs.versions_by.Given as goal
+
+abbrev pub invariant-loop-i : goal.invariant-loop-i
+invariant-loop-i l = (l.i ≤ l.count) × (l.n ≤ l.i) × (l.n ≡ length (versions_by plain l.name l.epoch (records_in l.i l.records)))
+
+abbrev pub decreases-loop-i : goal.decreases-loop-i
+decreases-loop-i l = l.count - l.i

@@ -1,0 +1,18 @@
+-- `path_form::form::rises`: the lengths passed were in their ranges, so the rest decides.
+use borrow.Author.Rules.{rules}
+use borrow.Author.Tests.{ltb-true, ltb-false}
+use native.Mathlib.Omega.{arith}
+use mathlib.Core.Path.{◌≡◌, sym, ◌∙◌}
+use mathlib.Core.Logic.{inl, inr, ⊎_elim}
+use Prim.Native.Nat.{◌+◌, ◌-◌, ◌*◌, ◌≤◌}
+use lib.ListN.{length, drop, length-drop}
+use Rattle.path_form.specs.Places.{steps_in, ranged, rising}
+use Rattle.path_form.proofs.Steps.{rising-room, rising-cut, rises-end, rises-stop, rises-on}
+use Rattle.path_form.proofs.form.rises.Given as goal
+
+abbrev pub invariant-loop-i : goal.invariant-loop-i
+invariant-loop-i l =
+    (l.i ≤ l.m) × (l.high ≤ 255) × (l.at + 34 * l.m ≤ length l.s) × (rising l.m (drop l.at l.s) ≡ ranged l.low l.high (drop l.i (steps_in l.m (drop l.at l.s))))
+
+abbrev pub decreases-loop-i : goal.decreases-loop-i
+decreases-loop-i l = l.m - l.i

@@ -1,0 +1,15 @@
+-- `runs::runs::absent`: what is left of the row decides.
+use borrow.Author.Rules.{rules}
+use native.Mathlib.Omega.{arith}
+use mathlib.Core.Path.{ap, ◌∙◌}
+use Prim.Native.Nat.{◌-◌}
+use Rattle.ranges.proofs.Slices.{bytewise}
+use Rattle.runs.specs.Runs.{lack, place_by}
+use Rattle.runs.proofs.Going.{Going, going-starts, going-ready, going_on, going-ends}
+use Rattle.runs.proofs.runs.absent.Given as goal
+
+abbrev pub invariant-loop-i : goal.invariant-loop-i
+invariant-loop-i l = Going l.s l.name (λ i. lack (place_by l.marker i)) l.low l.high l.at l.initial.taken l.i l.here l.taken
+
+abbrev pub decreases-loop-i : goal.decreases-loop-i
+decreases-loop-i l = l.high - l.i

@@ -1,0 +1,14 @@
+-- `table::index::clear`: the elements passed are zero.
+use borrow.Author.Rules.{rules}
+use native.Mathlib.Omega.{arith}
+use mathlib.Core.Path.{◌≡◌, refl, ◌∙◌}
+use Prim.Native.Nat.{ℕ, ◌-◌, ◌≤◌, ◌<◌}
+use lib.ListN.{length, get_or, length-set}
+use Rattle.table.proofs.Walk.{cleared, clear-more}
+use Rattle.table.proofs.index.clear.Given as goal
+
+abbrev pub invariant-loop-i : goal.invariant-loop-i
+invariant-loop-i l = (l.i ≤ length l.initial.d) × (l.i-end ≡ length l.initial.d) × (length l.d ≡ length l.initial.d) × ((j : ℕ) → j < l.i → get_or l.d j 0 ≡ 0)
+
+abbrev pub decreases-loop-i : goal.decreases-loop-i
+decreases-loop-i l = length l.initial.d - l.i
