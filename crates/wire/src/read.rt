@@ -1,14 +1,19 @@
 // Reading a request from the input, field by field. A request that is not readable is spoilt: its further fields are empty and are
 // not read, so that a call tests once, at its end, whether it was handed a whole request.
-ghost use Rattle.std.specs.Prelude.{◌≡◌, false, ◌&&◌, ◌+◌, ◌≤◌, eqb, length};
-ghost use Rattle.wire.specs.Took.{Begun, After, Took, rest_after};
+ghost use Rattle.std.specs.Prelude.{◌≡◌, true, false, ◌&&◌, ◌+◌, ◌≤◌, eqb, length, take, drop, ℕ, List};
+ghost use Rattle.std.specs.Io.KnownBytes.{Consumes};
+ghost use Rattle.paper.specs.Bytes.{number};
+ghost use Rattle.wire.specs.Took.{Begun, After, Took, rest_after, Within, Framed, Opened};
 
 use crate::{Field, Next, Number16, Number32, Request};
 use std::io::Read;
 use streams::read_full;
 
 // Whether the input had the bytes that fill the buffer.
-fn filled<I: Read>(input: &mut I, buffer: &mut [u8]) -> bool {
+fn filled<I: Read>(input: &mut I, buffer: &mut [u8]) -> bool
+    ensures some { (bytes : List ℕ) × (length bytes ≤ length buffer.old) × Consumes (I.remaining input.old) (I.remaining input.new) bytes }
+    ensures all { result ≡ true → Consumes (I.remaining input.old) (I.remaining input.new) buffer.new }
+{
     let most = buffer.len();
     read_full(input, buffer) == most
 }
@@ -33,7 +38,8 @@ pub fn whole(r: Request) -> bool
 // Begins the next request: four bytes that say how many follow, and the call's number. A request that is cut short, and one with no
 // byte for the call's number, is not readable, and has number 0, which no call has.
 pub fn next_request<I: Read>(input: &mut I) -> Next
-    ensures { Begun result }
+    ensures begun { Begun result }
+    ensures bytes { Opened (I.remaining input.old) (I.remaining input.new) result }
 {
     let mut size = [0u8; 4];
     let got = read_full(input, &mut size);
@@ -73,7 +79,9 @@ fn unread(left: usize) -> Field
 // Reads a field, four bytes that say how many follow and those, straight into the buffer. It is not readable where it is longer than the
 // buffer or than its request, or where the input ends in it; then nothing is left to read either.
 pub fn read_field<I: Read>(input: &mut I, r: Request, buffer: &mut [u8]) -> Field
-    ensures { Took r result buffer.new }
+    ensures took { Took r result buffer.new }
+    ensures within { Within (I.remaining input.old) (I.remaining input.new) r result.rest }
+    ensures bytes { result.rest.good ≡ true → Framed (I.remaining input.old) (I.remaining input.new) result.length (take result.length buffer.new) }
 {
     if !r.good || r.left < 4 {
         return unread(r.left);
@@ -108,7 +116,9 @@ pub fn read_at<I: Read>(
     most: usize,
 ) -> Field
     requires { at + most ≤ length space.old }
-    ensures { (result.length ≤ most) × (at + result.length ≤ length space.new) × After r result.rest result.length }
+    ensures took { (result.length ≤ most) × (at + result.length ≤ length space.new) × After r result.rest result.length }
+    ensures within { Within (I.remaining input.old) (I.remaining input.new) r result.rest }
+    ensures bytes { result.rest.good ≡ true → Framed (I.remaining input.old) (I.remaining input.new) result.length (take result.length (drop at space.new)) }
 {
     let after = at + most;
     read_field(input, r, &mut space[at..after])
@@ -127,7 +137,9 @@ fn exactly(f: Field, n: usize) -> Request
 
 // A field that is a number of two bytes.
 pub fn read_number16<I: Read>(input: &mut I, r: Request) -> Number16
-    ensures { After r result.rest 2 }
+    ensures after { After r result.rest 2 }
+    ensures within { Within (I.remaining input.old) (I.remaining input.new) r result.rest }
+    ensures value { result.rest.good ≡ true → (bytes : List ℕ) × (number bytes ≡ result.value) × Framed (I.remaining input.old) (I.remaining input.new) 2 bytes }
 {
     let mut bytes = [0u8; 2];
     let f = read_field(input, r, &mut bytes);
@@ -139,7 +151,9 @@ pub fn read_number16<I: Read>(input: &mut I, r: Request) -> Number16
 
 // A field that is a number of four bytes.
 pub fn read_number32<I: Read>(input: &mut I, r: Request) -> Number32
-    ensures { After r result.rest 4 }
+    ensures after { After r result.rest 4 }
+    ensures within { Within (I.remaining input.old) (I.remaining input.new) r result.rest }
+    ensures value { result.rest.good ≡ true → (bytes : List ℕ) × (number bytes ≡ result.value) × Framed (I.remaining input.old) (I.remaining input.new) 4 bytes }
 {
     let mut bytes = [0u8; 4];
     let f = read_field(input, r, &mut bytes);
@@ -151,7 +165,8 @@ pub fn read_number32<I: Read>(input: &mut I, r: Request) -> Number32
 
 // Reads up to 4,096 of the bytes that are left, and answers how many; 0 where the input has ended.
 fn skip_some<I: Read>(input: &mut I, left: usize) -> usize
-    ensures { result ≤ left }
+    ensures least { result ≤ left }
+    ensures bytes { (bytes : List ℕ) × (length bytes ≡ result) × Consumes (I.remaining input.old) (I.remaining input.new) bytes }
 {
     let mut space = io::buffer();
     if left < 4096 {
@@ -163,7 +178,8 @@ fn skip_some<I: Read>(input: &mut I, left: usize) -> usize
 
 // Reads past what is left of a request, and answers how much of it the input did not have.
 pub fn skip_rest<I: Read>(input: &mut I, r: Request) -> usize
-    ensures { result ≤ r.left }
+    ensures least { result ≤ r.left }
+    ensures bytes { (bytes : List ℕ) × (length bytes + result ≡ r.left) × Consumes (I.remaining input.old) (I.remaining input.new) bytes }
 {
     let mut left = r.left;
     while 0 < left {

@@ -1,0 +1,2 @@
+-- A law of what is read of a request.
+pub mod Joined
