@@ -1,0 +1,48 @@
+-- `audit::check_lists`: the list of *all*, and behind it the list of *old*.
+use borrow.Author.Rules.{rules}
+use native.Mathlib.Omega.{arith}
+use mathlib.Core.Path.{◌≡◌, sym, ap, ◌∙◌}
+use Rattle.paper.specs.Audit.{of_all}
+use Rattle.audit_form.specs.Places.{count_at, behind_at, Listed}
+use Rattle.audit.specs.Tests.{checked, tests_at, digests_at}
+use Rattle.audit.proofs.Parts.{list-passed, all_checked, all-refused, all-passed}
+use Prim.Native.Nat.{◌+◌, ◌*◌, ◌≤◌}
+use Rattle.audit.proofs.check_lists.Goals as goal
+use Rattle.audit.proofs.check_lists.Goals.{After-check_list, After-read32-n, In-Passed}
+
+-- the records stand where the list of *all* has them
+counted : (c : After-read32-n) → c.read32-n.result ≡ count_at c.args.proof.now 206
+unfolding count_at
+counted c = c.read32-n.ensures
+
+listed : (c : After-read32-n) → Listed c.args.proof.now 210 c.read32-n.result
+listed c = rw (counted c) c.requires.0.all
+
+told : (c : After-check_list) → c.check_list.result ≡ all_checked c.args.proof.now
+told c =
+    let s = c.args.proof.now in
+    c.check_list.ensures ∙ ap (λ n. checked (digests_at s 210 n) (tests_at s of_all 210 n 42)) (counted (goal.at.After-check_list c).After-read32-n)
+
+few : (c : In-Passed) → c.args.digests + c.in-Passed.more ≤ 65544
+few c =
+    let most = list-passed c.args.proof.now of_all 210 c.read32-n.result 42 _ (listed (goal.at.In-Passed c).After-read32-n) (sym c.check_list.ensures ∙ c.in-Passed.is) in
+    omega (arith, most.1, c.requires.1)
+
+pub check_list-requires : goal.check_list-requires
+check_list-requires c = (c.requires.0.long, omega arith, listed c)
+
+pub overflow_add-digests : goal.overflow_add-digests
+overflow_add-digests c = omega (arith, few c)
+
+pub check_old-requires : goal.check_old-requires
+unfolding behind_at
+check_old-requires c =
+    (c.requires.0, ap (λ n. 210 + n * 99) (counted (goal.at.check_old-requires c).After-read32-n), few c)
+
+pub returns-in-Refused : goal.returns-in-Refused
+returns-in-Refused c =
+    sym (all-refused c.args.proof.now c.args.digests _ (sym (told (goal.at.returns-in-Refused c).After-check_list) ∙ c.in-Refused.is))
+
+pub returns-in-Passed : goal.returns-in-Passed
+returns-in-Passed c =
+    c.check_old.ensures ∙ sym (all-passed c.args.proof.now c.args.digests _ (sym (told (goal.at.returns-in-Passed c).After-check_list) ∙ c.in-Passed.is))

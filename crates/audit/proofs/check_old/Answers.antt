@@ -1,0 +1,42 @@
+-- `audit::check_old`: the list of *old* stands behind that of *all*, and its digests are added.
+use borrow.Author.Rules.{rules}
+use native.Mathlib.Omega.{arith}
+use Rattle.paper.specs.declared.AuditAnswer.TheVariants as Answer
+use mathlib.Core.Path.{◌≡◌, sym, ap, ap₂, ◌∙◌}
+use Prim.Native.Nat.{◌+◌}
+use Rattle.paper.specs.Audit.{of_old}
+use Rattle.audit_form.specs.Places.{count_at, behind_at, Listed}
+use Rattle.audit.specs.Tests.{checked, tests_at, digests_at}
+use Rattle.audit.proofs.Parts.{list-passed, old_checked, old-refused, old-passed}
+use Rattle.audit.proofs.check_old.Goals as goal
+use Rattle.audit.proofs.check_old.Goals.{After-check_list, After-read32-n}
+
+-- the records stand where the list of *old* has them
+counted : (c : After-read32-n) → c.read32-n.result ≡ count_at c.args.proof.now (behind_at c.args.proof.now 206)
+unfolding count_at
+counted c = c.read32-n.ensures ∙ ap (count_at c.args.proof.now) c.requires.1
+
+listed : (c : After-read32-n) → Listed c.args.proof.now (c.args.at + 4) c.read32-n.result
+listed c = rw (c.requires.1, counted c) c.requires.0.old
+
+told : (c : After-check_list) → c.check_list.result ≡ old_checked c.args.proof.now
+told c =
+    let s = c.args.proof.now in
+    c.check_list.ensures ∙ ap₂ (λ p n. checked (digests_at s (p + 4) n) (tests_at s of_old (p + 4) n 74)) c.requires.1 (counted (goal.at.After-check_list c).After-read32-n)
+
+pub check_list-requires : goal.check_list-requires
+check_list-requires c = (c.requires.0.long, omega arith, listed c)
+
+pub overflow_add-result : goal.overflow_add-result
+overflow_add-result c =
+    let few = list-passed c.args.proof.now of_old (c.args.at + 4) c.read32-n.result 74 _ (listed (goal.at.overflow_add-result c).After-read32-n) (sym c.check_list.ensures ∙ c.in-Passed.is) in
+    omega (arith, few.1, c.requires.2)
+
+pub returns-in-Refused : goal.returns-in-Refused
+returns-in-Refused c =
+    sym (old-refused c.args.proof.now c.args.digests _ (sym (told (goal.at.returns-in-Refused c).After-check_list) ∙ c.in-Refused.is))
+
+pub returns-in-Passed : goal.returns-in-Passed
+returns-in-Passed c =
+    ap₂ (λ x y. Answer.Accepted x y (c.args.digests + c.in-Passed.more)) c.read32.ensures c.read32-in-Passed.ensures
+    ∙ sym (old-passed c.args.proof.now c.args.digests _ (sym (told (goal.at.returns-in-Passed c).After-check_list) ∙ c.in-Passed.is))

@@ -1,0 +1,24 @@
+-- `directory::opened`: a start, and then a first batch.
+use borrow.Author.Rules.{rules}
+use Rattle.paper.specs.Labelling.{plain}
+use Rattle.paper.specs.Publish.{Started}
+use Rattle.directory.proofs.Publishings.{opened-not, opened-left}
+use Rattle.directory.proofs.opened.Goals as goal
+use Rattle.directory.proofs.opened.Goals.{After-begun}
+
+-- what the start left
+abbrev made : After-begun → Started
+made k = record { answer = k.begun.result; heads = k.begun.new.heads }
+
+pub further-requires : goal.further-requires
+further-requires c = c.begun.ensures.left _ c.in-Started.is
+
+pub returns-in-Refused : goal.returns-in-Refused
+returns-in-Refused c =
+    let a = c.args in
+    opened-not plain a.records.now a.heads.now a.batch.now (made (goal.at.returns-in-Refused c).After-begun) c.begun.ensures _ c.in-Refused.is
+
+pub returns-in-Started : goal.returns-in-Started
+returns-in-Started c =
+    let a = c.args in
+    opened-left plain a.records.now a.heads.now a.batch.now (made (goal.at.returns-in-Started c).After-begun) c.begun.ensures _ c.in-Started.is _ c.further.ensures

@@ -1,0 +1,7 @@
+-- `noonhaggle::server::noonhaggle_start`: the entry's answer, as C has it.
+use borrow.Author.Rules.{rules}
+use Rattle.noonhaggle.proofs.Left.{start-left}
+use Rattle.noonhaggle.proofs.server.noonhaggle_start.Goals as goal
+
+pub returns : goal.returns
+returns c = start-left _ _ _ _ c.start_result.ensures c.start.ensures

@@ -1,0 +1,7 @@
+-- `noonhaggle::server::noonhaggle_write_history`: the writer's answer, as C has it.
+use borrow.Author.Rules.{rules}
+use Rattle.noonhaggle.proofs.Left.{write-left}
+use Rattle.noonhaggle.proofs.server.noonhaggle_write_history.Goals as goal
+
+pub returns : goal.returns
+returns c = write-left _ _ _ _ c.write_result.ensures c.write_history.ensures
