@@ -19,8 +19,7 @@ use Rattle.paper.specs.Bytes.{Bytes, zeros, same}
 use Rattle.paper.specs.Bits.{log2}
 use Rattle.paper.specs.Strings.{leaf, commitment_string}
 use Rattle.paper.specs.Labelling.{Labelling, Sized}
-use Rattle.paper.specs.Tree.{key, root, root_digest}
-use Rattle.paper.specs.Path as P
+use Rattle.paper.specs.Tree.{root, root_digest}
 use Rattle.paper.specs.Path.{Path, this, epoch_of, present_with, way, way_end, path_root}
 use Rattle.paper.specs.Fields.{is_name, path_field, head_field}
 use Rattle.paper.specs.Shows.{Place, in_all, in_old, as_marker, Asked, present, missing, Item, item_field, Proof, Terms, label_at, root_at, meets, path_tests, proof_tests, input_tests, epoch_at, commitment_at}

@@ -1,5 +1,5 @@
 -- Document 01, "Audit".
-use Rattle.std.specs.Prelude.{Bool, true, false, ◌&&◌, List, [], ◌∷◌, ◌++◌, map, ℕ, zero, suc, ◌+◌, leb, eqb, length}
+use Rattle.std.specs.Prelude.{Bool, true, false, ◌&&◌, List, [], ◌∷◌, ◌++◌, map, ℕ, zero, suc, leb, eqb, length}
 use Rattle.fips.specs.Sha256.{sha256}
 use Rattle.paper.specs.Lists.{every}
 use Rattle.paper.specs.Numbers.{wide, audit_most, INPUT, FORM, HEAD, ROOT, RULE}

@@ -1,5 +1,5 @@
 -- Document 01, "History".
-use Rattle.std.specs.Prelude.{Bool, ◌&&◌, List, ◌∷◌, ◌++◌, map, ℕ, zero, suc, ◌+◌, ◌-◌, ◌^◌, min, leb, ltb, eqb, length}
+use Rattle.std.specs.Prelude.{Bool, ◌&&◌, List, ◌∷◌, ◌++◌, map, ℕ, zero, suc, ◌-◌, ◌^◌, min, leb, ltb, eqb, length}
 use Rattle.paper.specs.Lists.{up_from}
 use Rattle.paper.specs.Numbers.{wide, FORM}
 use Rattle.paper.specs.Bytes.{Bytes, zeros}

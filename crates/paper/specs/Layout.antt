@@ -2,7 +2,7 @@
 -- bytes, and how bytes are read. proofs/Layouts.antt shows that for each layout built here reading and writing are inverse: the
 -- bytes of a value that fits are read as that value, and what is read fits and has just those bytes. So "the bytes have the
 -- layout" means that some value that fits has these bytes, and reading finds it.
-use Rattle.std.specs.Prelude.{◌≡◌, Bool, true, false, cond, ◌&&◌, List, [], ◌∷◌, ◌++◌, ℕ, zero, suc, ◌+◌, ◌^◌, ◌≤◌, ◌<◌, leb, length, take, drop}
+use Rattle.std.specs.Prelude.{◌≡◌, Bool, true, false, cond, ◌&&◌, List, [], ◌∷◌, ◌++◌, ℕ, zero, suc, ◌^◌, ◌≤◌, ◌<◌, leb, length, take, drop}
 use Rattle.paper.specs.Lists.{All}
 use Rattle.paper.specs.Bytes.{Bytes, Bytewise, be, number, same}
 

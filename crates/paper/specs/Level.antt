@@ -1,6 +1,6 @@
 -- "CLASH is tried at the tree level, which takes labels directly.": leaves one behind the other in any order, the root over them, and
 -- the path of a label.
-use Rattle.std.specs.Prelude.{Bool, true, not, ◌&&◌, List, [], ◌∷◌, ◌++◌, ℕ, zero, suc, ◌+◌, ◌*◌, ◌/◌, ◌%◌, eqb, leb, length, take, drop}
+use Rattle.std.specs.Prelude.{Bool, true, not, ◌&&◌, List, [], ◌∷◌, ◌++◌, ℕ, zero, suc, ◌*◌, ◌/◌, ◌%◌, eqb, leb, length, take, drop}
 use Rattle.paper.specs.Numbers.{wide, records_most, INPUT, CLASH, ROOM}
 use Rattle.paper.specs.Bytes.{Bytes, number, pasted}
 use Rattle.paper.specs.Bits.{bits_of}

@@ -1,6 +1,6 @@
 -- Lookup and history proofs: a head, keys with their openings, and paths in an order that the document gives. What the paths are
 -- asked to show, the tests in their order, and the strings that are hashed.
-use Rattle.std.specs.Prelude.{Bool, true, false, cond, ◌&&◌, List, [], ◌∷◌, ◌++◌, map, ℕ, zero, suc, ◌+◌, ◌-◌, eqb, length, get_or}
+use Rattle.std.specs.Prelude.{Bool, true, false, cond, ◌&&◌, List, [], ◌∷◌, ◌++◌, map, ℕ, zero, suc, ◌-◌, eqb, length, get_or}
 use Rattle.fips.specs.Sha256.{sha256}
 use Rattle.paper.specs.Numbers.{wide, version_most, INPUT, HEAD, ROOT, RULE}
 use Rattle.paper.specs.Bytes.{Bytes, same}

@@ -1,5 +1,5 @@
 -- Document 01, "Publishing": records and tables, their shape, the leaves and roots of an epoch, and its head.
-use Rattle.std.specs.Prelude.{Bool, true, cond, not, ◌&&◌, ℕ, zero, suc, ◌+◌, ◌-◌, ◌*◌, ◌/◌, ◌%◌, ◌^◌, eqb, leb, ltb, length, take, drop}
+use Rattle.std.specs.Prelude.{Bool, true, cond, not, ◌&&◌, ℕ, zero, suc, ◌-◌, ◌*◌, ◌/◌, ◌%◌, ◌^◌, eqb, leb, ltb, length, take, drop}
 use mathlib.Core.List.{List, [], ◌∷◌, ◌++◌, flat_map}
 use Rattle.fips.specs.Sha256.{sha256}
 use Rattle.paper.specs.Lists.{every, some, keep}

@@ -1,5 +1,5 @@
 -- The three writers of lookup, history and audit proofs: what they answer and every byte that they leave.
-use Rattle.std.specs.Prelude.{◌≡◌, Bool, true, false, cond, not, ◌&&◌, ◌||◌, List, [], ◌∷◌, ◌++◌, map, ℕ, ◌+◌, ◌-◌, ◌≤◌, eqb, leb, length, take}
+use Rattle.std.specs.Prelude.{◌≡◌, Bool, true, false, cond, not, ◌&&◌, ◌||◌, List, [], ◌∷◌, ◌++◌, map, ℕ, ◌-◌, ◌≤◌, eqb, leb, length, take}
 use Rattle.paper.specs.Lists.{every}
 use Rattle.paper.specs.Numbers.{INPUT, TABLE, EPOCH, CLASH, ROOM}
 use Rattle.paper.specs.Bytes.{Bytes, pasted}

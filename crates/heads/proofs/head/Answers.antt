@@ -1,5 +1,4 @@
 -- `heads::head`: the four parts fill the array behind its first byte.
-use borrow.Author.Rules.{rules}
 use native.Mathlib.Omega.{arith}
 use mathlib.Core.Path.{ap, ◌∙◌}
 use mathlib.Core.List.{[], ◌∷◌}

@@ -1,5 +1,4 @@
 -- `heads::head-at`: the parts of the head are hashed as they were read.
-use borrow.Author.Rules.{rules}
 use mathlib.Core.Path.{◌∙◌}
 use Rattle.heads.proofs.head_at.Goals as goal
 

@@ -4,8 +4,7 @@ use borrow.Author.Tests.{ltb-true, ltb-false}
 use native.Mathlib.Omega.{arith}
 use mathlib.Core.Path.{◌≡◌, refl, sym, ◌∙◌}
 use mathlib.Core.Logic.{inl, inr, ⊎_elim}
-use Prim.Native.Nat.{◌-◌, ◌≤◌}
-use lib.ListN.{length, get_or, drop}
+use lib.ListN.{get_or}
 use Rattle.paper.specs.Lists.{every}
 use Rattle.paper.specs.Fields.{is_name}
 use Rattle.ranges.proofs.Compare.{every-none, every-pass, every-fail}

@@ -1,5 +1,4 @@
 -- `nodes::join`: the sides are those that the bit picks.
-use borrow.Author.Rules.{rules}
 use Rattle.nodes.specs.Join.{joined}
 use Rattle.nodes.proofs.join.Goals as goal
 

@@ -1,5 +1,4 @@
 -- `nodes::nothing`: the string is the array.
-use borrow.Author.Rules.{rules}
 use Rattle.paper.specs.Strings.{nothing_string}
 use Rattle.nodes.proofs.nothing.Goals as goal
 

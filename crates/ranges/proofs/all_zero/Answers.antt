@@ -1,12 +1,10 @@
 -- `ranges::all_zero`: the bytes passed were zero, so the rest decides.
 use borrow.Author.Rules.{rules}
 use native.Mathlib.Omega.{arith}
-use mathlib.Core.Path.{◌≡◌, refl, sym, ◌∙◌}
-use Prim.Native.Nat.{◌-◌, ◌≤◌}
+use mathlib.Core.Path.{refl, sym, ◌∙◌}
 use lib.Dec.{eqb}
-use lib.ListN.{length, get_or, drop}
+use lib.ListN.{get_or}
 use borrow.Author.Tests.{eq-eqb, ne_eqb}
-use Rattle.paper.specs.Lists.{every}
 use Rattle.ranges.proofs.Compare.{every-none, every-pass, every-fail}
 use Rattle.ranges.proofs.all_zero.Goals as goal
 

@@ -1,13 +1,9 @@
 -- `ranges::all_zero`: the bytes passed were zero, so the rest decides.
-use borrow.Author.Rules.{rules}
-use native.Mathlib.Omega.{arith}
-use mathlib.Core.Path.{◌≡◌, refl, sym, ◌∙◌}
+use mathlib.Core.Path.{◌≡◌}
 use Prim.Native.Nat.{◌-◌, ◌≤◌}
 use lib.Dec.{eqb}
-use lib.ListN.{length, get_or, drop}
-use borrow.Author.Tests.{eq-eqb, ne_eqb}
+use lib.ListN.{length, drop}
 use Rattle.paper.specs.Lists.{every}
-use Rattle.ranges.proofs.Compare.{every-none, every-pass, every-fail}
 use Rattle.ranges.proofs.all_zero.Given as goal
 
 abbrev pub invariant-loop-i : goal.invariant-loop-i

@@ -1,13 +1,7 @@
 -- `ranges::same`: strings that differ in length or at a place are not the same; those that agree at each place are.
-use borrow.Author.Rules.{rules}
-use native.Mathlib.Omega.{arith}
-use mathlib.Core.Path.{◌≡◌, refl, ap, sym}
+use mathlib.Core.Path.{◌≡◌}
 use Prim.Native.Nat.{ℕ, ◌-◌, ◌≤◌, ◌<◌}
 use lib.ListN.{length, get_or}
-use lib.Seq.{ext_get_or}
-use borrow.Author.Count.{below_none, below_more}
-use Rattle.paper.proofs.Bytes.{eq-same}
-use Rattle.ranges.proofs.Compare.{not_same}
 use Rattle.ranges.proofs.same.Given as goal
 
 abbrev pub invariant-loop-i : goal.invariant-loop-i

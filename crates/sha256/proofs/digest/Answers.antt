@@ -1,10 +1,8 @@
 -- `sha256::digest` meets its contract: its first i bytes are those of the definition. Assumes nothing.
-use mathlib.Core.Path.{◌≡◌, refl}
+use mathlib.Core.Path.{refl}
 use mathlib.Core.List.{◌∷◌, []}
-use Prim.Native.Nat.{◌≤◌, ◌-◌}
 use native.Mathlib.Omega.{arith}
-use lib.ListN.{length, take, length-set}
-use borrow.Author.Rules.{rules}
+use lib.ListN.{length-set}
 use Rattle.fips.specs.Sha256 as S
 use Rattle.sha256.proofs.Bytes.{bytes, bytes-turn, bytes-done}
 use Rattle.sha256.proofs.digest.Goals as goal

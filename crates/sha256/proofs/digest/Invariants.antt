@@ -1,12 +1,8 @@
 -- `sha256::digest` meets its contract: its first i bytes are those of the definition. Assumes nothing.
-use mathlib.Core.Path.{◌≡◌, refl}
-use mathlib.Core.List.{◌∷◌, []}
+use mathlib.Core.Path.{◌≡◌}
 use Prim.Native.Nat.{◌≤◌, ◌-◌}
-use native.Mathlib.Omega.{arith}
-use lib.ListN.{length, take, length-set}
-use borrow.Author.Rules.{rules}
-use Rattle.fips.specs.Sha256 as S
-use Rattle.sha256.proofs.Bytes.{bytes, bytes-turn, bytes-done}
+use lib.ListN.{length, take}
+use Rattle.sha256.proofs.Bytes.{bytes}
 use Rattle.sha256.proofs.digest.Given as goal
 
 abbrev pub invariant-loop-i : goal.invariant-loop-i

@@ -1,10 +1,8 @@
 -- `sha256::finish` meets its contract: the stores make the end of the padded message, one block of it or two. Assumes nothing.
-use mathlib.Core.Path.{◌≡◌, refl, ap, ◌∙◌}
+use mathlib.Core.Path.{refl}
 use Prim.Native.Nat.{◌+◌, ◌-◌, ◌*◌, ◌/◌}
 use native.Mathlib.Omega.{arith}
-use lib.ListN.{length, length-set}
-use lib.Seq.{length-sets}
-use borrow.Author.Rules.{rules}
+use lib.ListN.{length}
 use Rattle.sha256.proofs.Padding.{made}
 use Rattle.sha256.proofs.finish.Goals as goal
 

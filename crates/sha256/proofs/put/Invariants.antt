@@ -1,12 +1,8 @@
 -- `sha256::put` meets its contract: the stores still to come, over those done, give the whole run. Assumes nothing.
 use mathlib.Core.Path.{◌≡◌}
 use Prim.Native.Nat.{◌+◌, ◌≤◌, ◌-◌}
-use native.Mathlib.Nat.{add-zero}
-use native.Mathlib.Omega.{arith}
 use lib.ListN.{length, drop}
 use lib.Seq.{sets}
-use borrow.Author.Rules.{rules}
-use Rattle.sha256.proofs.Padding.{put-turn, put-done}
 use Rattle.sha256.proofs.put.Given as goal
 
 abbrev pub invariant-loop-i : goal.invariant-loop-i

@@ -2,13 +2,11 @@
 -- Invariants: no loop has gone past an end, and the bits before the place agree. Assumes nothing.
 use mathlib.Core.Path.{sym, ◌∙◌}
 use mathlib.Core.Logic.{⊎_elim}
-use Prim.Native.Nat.{◌+◌, ◌-◌, ◌*◌, ◌≤◌}
+use Prim.Native.Nat.{◌+◌, ◌*◌}
 use native.Mathlib.Omega.{arith}
-use borrow.Author.Rules.{rules}
 use borrow.Author.Tests.{eqb-true, eqb-false}
-use lib.ListN.{length}
 use Rattle.paper.specs.Bits.{bits_of}
-use Rattle.bits.proofs.Lcp.{Agree, agree-more, bits-same, bits-differ, first_difference-at}
+use Rattle.bits.proofs.Lcp.{agree-more, bits-same, bits-differ, first_difference-at}
 use Rattle.bits.proofs.label.first_difference.Goals as goal
 
 pub bytes-init : goal.bytes-init

@@ -1,9 +1,8 @@
 -- `bits::prefix::prefix_of` packs the first n bits. The loop's invariant: the bits of the first i bytes are packed.
 -- It ends with the 32 bytes, with the label or with the n bits, and then all are. Assumes nothing.
 use mathlib.Core.Path.{◌≡◌, refl, sym, ap, ap₂, ◌∙◌}
-use Prim.Native.Nat.{◌-◌, ◌*◌, ◌≤◌}
+use Prim.Native.Nat.{◌*◌}
 use native.Mathlib.Omega.{arith}
-use borrow.Author.Rules.{rules}
 use borrow.Author.Tests.{ltb-true, ltb-false}
 use lib.ListN.{take, set, length-take}
 use lib.Seq.{take_all}

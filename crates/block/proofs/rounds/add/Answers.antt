@@ -1,5 +1,4 @@
 -- `block::rounds::add` meets its contract: the sums of the code are those of the definition. Assumes nothing.
-use Rattle.std.proofs.Common.{rules}
 use Rattle.block.proofs.Turns.{states}
 use Rattle.block.proofs.rounds.add.Goals as goal
 

@@ -1,7 +1,6 @@
 -- `block::rounds::compress` meets its contract: after t rounds, eight in a turn, the working variables are those of t rounds. Assumes nothing.
-use Rattle.std.proofs.Common.{◌≡◌, ◌-◌, ◌%◌, ◌≤◌, refl, arith, rules}
+use Rattle.std.proofs.Common.{◌≡◌, ◌-◌, ◌%◌, ◌≤◌}
 use Rattle.fips.specs.Sha256 as S
-use Rattle.block.proofs.Turns.{rounds-done}
 use Rattle.block.proofs.rounds.compress.Given as goal
 
 abbrev pub invariant-loop-t : goal.invariant-loop-t

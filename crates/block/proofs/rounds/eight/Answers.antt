@@ -1,6 +1,4 @@
 -- `block::rounds::eight` meets its contract: a round after the other. Assumes nothing.
-use Rattle.std.proofs.Common.{◌≡◌, ℕ, ◌+◌, ◌<◌, arith, lit<, w64, Fits, rules}
-use Rattle.fips.specs.Words.{K}
 use Rattle.block.proofs.Turns.{rounds-eight}
 use Rattle.block.proofs.rounds.eight.Goals as goal
 

@@ -1,5 +1,4 @@
 -- `block::rounds::round` meets its contract: the sums of the code are those of the definition. Assumes nothing.
-use Rattle.std.proofs.Common.{rules}
 use Rattle.block.proofs.Turns.{round-made}
 use Rattle.block.proofs.rounds.round.Goals as goal
 

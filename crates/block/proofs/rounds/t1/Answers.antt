@@ -1,5 +1,5 @@
 -- `block::rounds::t1` meets its contract: the sums of the code are those of the definition. Assumes nothing.
-use Rattle.std.proofs.Common.{refl, rules}
+use Rattle.std.proofs.Common.{refl}
 use Rattle.block.proofs.Numbers.{sum}
 use Rattle.block.proofs.rounds.t1.Goals as goal
 

@@ -1,5 +1,5 @@
 -- `block::schedule::first_words` meets its contract: its first t words are those of the definition. Assumes nothing.
-use Rattle.std.proofs.Common.{◌≡◌, ◌-◌, ◌≤◌, length, take, refl, arith, length-set, rules}
+use Rattle.std.proofs.Common.{refl, arith, length-set}
 use Rattle.fips.specs.Sha256 as S
 use Rattle.block.proofs.Turns.{early, schedule-turn, first_done}
 use Rattle.block.proofs.schedule.first_words.Goals as goal

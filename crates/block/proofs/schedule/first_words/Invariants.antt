@@ -1,7 +1,6 @@
 -- `block::schedule::first_words` meets its contract: its first t words are those of the definition. Assumes nothing.
-use Rattle.std.proofs.Common.{◌≡◌, ◌-◌, ◌≤◌, length, take, refl, arith, length-set, rules}
+use Rattle.std.proofs.Common.{◌≡◌, ◌-◌, ◌≤◌, length, take}
 use Rattle.fips.specs.Sha256 as S
-use Rattle.block.proofs.Turns.{early, schedule-turn, first_done}
 use Rattle.block.proofs.schedule.first_words.Given as goal
 
 abbrev pub invariant-loop-t : goal.invariant-loop-t

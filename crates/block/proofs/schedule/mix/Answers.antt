@@ -1,5 +1,5 @@
 -- `block::schedule::mix` meets its contract: the sums of the code are those of the definition. Assumes nothing.
-use Rattle.std.proofs.Common.{refl, rules}
+use Rattle.std.proofs.Common.{refl}
 use Rattle.fips.specs.Sha256 as S
 use Rattle.block.proofs.Numbers.{sum}
 use Rattle.block.proofs.schedule.mix.Goals as goal

@@ -1,6 +1,5 @@
 -- `block::schedule::schedule` meets its contract: its first t words are those of the definition. Assumes nothing.
-use Rattle.std.proofs.Common.{◌≡◌, ℕ, ◌-◌, ◌*◌, ◌<◌, ◌≤◌, length, take, arith, lit≤, length-set, w64, Fits, rules}
-use Rattle.fips.specs.Sha256 as S
+use Rattle.std.proofs.Common.{arith, length-set}
 use Rattle.block.proofs.Turns.{late, schedule-turn, schedule-done}
 use Rattle.block.proofs.schedule.schedule.Goals as goal
 

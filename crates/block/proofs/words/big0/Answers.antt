@@ -1,5 +1,4 @@
 -- `block::words::big0` meets its contract: its rotations are those of the definition. Assumes nothing.
-use Rattle.std.proofs.Common.{rules}
 use Rattle.block.proofs.Numbers.{xors}
 use Rattle.block.proofs.words.big0.Goals as goal
 

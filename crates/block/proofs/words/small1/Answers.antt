@@ -1,5 +1,5 @@
 -- `block::words::small1` meets its contract: its rotations and its shift are those of the definition. Assumes nothing.
-use Rattle.std.proofs.Common.{refl, rules}
+use Rattle.std.proofs.Common.{refl}
 use Rattle.block.proofs.Numbers.{xors}
 use Rattle.block.proofs.words.small1.Goals as goal
 

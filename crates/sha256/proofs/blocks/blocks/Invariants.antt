@@ -1,11 +1,8 @@
 -- `sha256::blocks::blocks` meets its contract: the blocks still to come, from the hash value so far, give that of the whole. Assumes nothing.
-use mathlib.Core.Path.{◌≡◌, refl}
-use Prim.Native.Nat.{◌+◌, ◌≤◌, ◌-◌}
-use native.Mathlib.Omega.{arith}
+use mathlib.Core.Path.{◌≡◌}
+use Prim.Native.Nat.{◌≤◌, ◌-◌}
 use lib.ListN.{length, drop}
-use borrow.Author.Rules.{rules}
 use Rattle.fips.specs.Sha256 as S
-use Rattle.sha256.proofs.Turns.{blocks-turn, blocks-done}
 use Rattle.sha256.proofs.blocks.blocks.Given as goal
 
 abbrev pub invariant-loop-at : goal.invariant-loop-at
