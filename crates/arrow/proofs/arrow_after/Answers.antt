@@ -1,5 +1,4 @@
 -- `arrow::arrow_after`: the lookup at the head before the step, the step, the history at the head after it.
-use borrow.Author.Rules.{rules}
 use borrow.Author.Tests.{eq-eqb, ne_eqb}
 use mathlib.Core.Path.{◌≡◌, sym, ap, ◌∙◌}
 use mathlib.Core.Bool.{Bool, true, false}

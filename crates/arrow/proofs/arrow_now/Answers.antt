@@ -1,5 +1,4 @@
 -- `arrow::arrow_now`: both checks at one head.
-use borrow.Author.Rules.{rules}
 use mathlib.Core.Path.{◌≡◌, refl, ap, ◌∙◌}
 use mathlib.Core.List.{[]}
 use Rattle.paper.specs.Labelling.{plain}

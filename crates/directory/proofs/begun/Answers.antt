@@ -1,6 +1,4 @@
 -- `directory::begun`: one test, and then a start.
-use borrow.Author.Rules.{rules}
-use borrow.Author.Tests.{not-true, not-false}
 use mathlib.Core.Path.{sym, ◌∙◌}
 use Rattle.paper.specs.Labelling.{plain}
 use Rattle.ranges.proofs.Slices.{bytewise}

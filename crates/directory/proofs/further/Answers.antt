@@ -1,5 +1,4 @@
 -- `directory::further`: what publishing leaves of a directory is one.
-use borrow.Author.Rules.{rules}
 use Rattle.paper.specs.Labelling.{plain}
 use Rattle.ranges.proofs.Slices.{bytewise}
 use Rattle.directory.proofs.Publishings.{further-left}

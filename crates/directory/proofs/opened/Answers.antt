@@ -1,5 +1,4 @@
 -- `directory::opened`: a start, and then a first batch.
-use borrow.Author.Rules.{rules}
 use Rattle.paper.specs.Labelling.{plain}
 use Rattle.paper.specs.Publish.{Started}
 use Rattle.directory.proofs.Publishings.{opened-not, opened-left}

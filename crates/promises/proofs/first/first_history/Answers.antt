@@ -1,5 +1,4 @@
 -- `promises::first::first_history`: what was opened is a directory, and so the answer is its own.
-use borrow.Author.Rules.{rules}
 use Rattle.paper.specs.Labelling.{plain}
 use Rattle.paper.specs.Publish.{Published}
 use Rattle.paper.specs.declared.HistoryAnswer.TheVariants.{Refused}

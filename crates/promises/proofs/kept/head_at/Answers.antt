@@ -1,5 +1,4 @@
 -- `promises::kept::head-at`: the part has 32 bytes.
-use borrow.Author.Rules.{rules}
 use Prim.Native.Nat.{◌*◌}
 use Rattle.paper.specs.Table.{head_at}
 use Rattle.ranges.proofs.Slices.{part-is}

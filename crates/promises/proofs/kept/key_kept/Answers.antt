@@ -1,5 +1,4 @@
 -- `promises::kept::key_kept`: the bounds of both parts, and the two ways.
-use borrow.Author.Rules.{rules}
 use native.Mathlib.Omega.{arith}
 use mathlib.Core.Path.{sym}
 use Prim.Native.Nat.{◌+◌, ◌*◌, ◌≤◌}
