@@ -47,8 +47,8 @@ for line in text.split("\n"):
         if pages:
             # the loop's own step, a page, is counted above
             frames[name] += int(pages.group(1), 16) - PAGE
-        call = re.search(r"\t(?:call|jmp) +[0-9a-f]+ <([^+]*)>$", line)
-        if call:
+        call = re.search(r"\t(?:call|jmp) +[0-9a-f]+ <(.*)>$", line)
+        if call and not re.search(r"\+0x[0-9a-f]+$", call.group(1)):
             calls[name].add(call.group(1))
 
 

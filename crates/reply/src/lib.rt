@@ -1,34 +1,37 @@
-// Writing an answer's line to standard output, part by part.
+// Writing an answer's line to the output, part by part.
 #![tactic(auto)]
 
 ghost use Rattle.std.specs.Prelude.{◌≡◌, ◌+◌, ◌*◌, ◌<◌, ◌≤◌, length, take};
 ghost use Rattle.io.specs.Digits.{hex_digit_ascii};
 ghost use Rattle.reply.specs.Text.{hex_text};
 
-use libc::STDOUT_FILENO;
+use std::io::{Read, Write};
+use streams::write_all;
 use wire::Request;
 
 // Writes a text as it stands: a word, a blank between two parts, or the line's end.
-pub fn print_text(text: &[u8]) {
-    io::write_all(STDOUT_FILENO, text);
+pub fn print_text<O: Write>(output: &mut O, text: &[u8]) {
+    write_all(output, text);
 }
 
 // Writes a number in decimal digits.
-pub fn print_number(n: u64) {
-    io::print_decimal(STDOUT_FILENO, n);
+pub fn print_number<O: Write>(output: &mut O, n: u64) {
+    let mut digits = [0u8; 20];
+    let k = io::decimal(n, &mut digits);
+    print_text(output, &digits[..k]);
 }
 
 // Writes the line of a refusal.
-pub fn print_refused(n: u8) {
-    print_text(b"refused ");
-    print_number(n as u64);
-    print_text(b"\n");
+pub fn print_refused<O: Write>(output: &mut O, n: u8) {
+    print_text(output, b"refused ");
+    print_number(output, n as u64);
+    print_text(output, b"\n");
 }
 
 // Writes the line of a request that can't be read, and reads past what is left of it.
-pub fn print_bad(rest: Request) {
-    print_text(b"bad\n");
-    wire::skip_rest(rest);
+pub fn print_bad<I: Read, O: Write>(input: &mut I, output: &mut O, rest: Request) {
+    print_text(output, b"bad\n");
+    wire::skip_rest(input, rest);
 }
 
 // A hexadecimal digit, in lower case.
@@ -51,25 +54,25 @@ fn spell(bytes: &[u8], text: &mut [u8])
 }
 
 // Writes n bytes from place `at` on. The text has room for the digits of 2,048.
-fn print_part(bytes: &[u8], at: usize, n: usize)
+fn print_part<O: Write>(output: &mut O, bytes: &[u8], at: usize, n: usize)
     requires { (at + n ≤ length bytes.now) × (n ≤ 2048) }
 {
     let after = at + n;
     let mut text = io::buffer();
     spell(&bytes[at..after], &mut text);
-    print_text(&text[0..n * 2]);
+    print_text(output, &text[0..n * 2]);
 }
 
 // Writes bytes in hexadecimal digits, two for each, with few calls of the system; no bytes are a dash.
-pub fn print_bytes(bytes: &[u8]) {
+pub fn print_bytes<O: Write>(output: &mut O, bytes: &[u8]) {
     if bytes.len() == 0 {
-        print_text(b"-");
+        print_text(output, b"-");
         return;
     }
     let mut at = 0;
     while 2048 < bytes.len() - at {
-        print_part(bytes, at, 2048);
+        print_part(output, bytes, at, 2048);
         at += 2048;
     }
-    print_part(bytes, at, bytes.len() - at);
+    print_part(output, bytes, at, bytes.len() - at);
 }

@@ -5,7 +5,8 @@
 
 ghost use Rattle.std.specs.Prelude.{◌≡◌, ◌≤◌, length};
 
-use libc::STDOUT_FILENO;
+use std::io;
+use std::io::Write;
 
 // The digit of the lower half of a byte.
 fn digit(b: u8) -> u8 {
@@ -14,7 +15,7 @@ fn digit(b: u8) -> u8 {
 }
 
 // A line: the digest of `m`.
-fn show(m: &[u8]) {
+fn show<O: Write>(output: &mut O, m: &[u8]) -> io::Result<()> {
     let d = sha256::sha256(m);
     let mut line = [b'\n'; 65];
     for i in 0..32 {
@@ -22,27 +23,31 @@ fn show(m: &[u8]) {
         line[2 * i] = digit(b / 16);
         line[2 * i + 1] = digit(b);
     }
-    io::write_all(STDOUT_FILENO, &line);
+    output.write_all(&line)
 }
 
 // Short messages: NIST's worked examples, then the first of its validation system's.
-fn short() {
-    show(b"abc");
-    show(b"");
-    show(b"abcdbcdecdefdefgefghfghighijhijkijkljklmklmnlmnomnopnopq");
+fn short<O: Write>(output: &mut O) -> io::Result<()> {
+    show(output, b"abc")?;
+    show(output, b"")?;
     show(
+        output,
+        b"abcdbcdecdefdefgefghfghighijhijkijkljklmklmnlmnomnopnopq",
+    )?;
+    show(
+        output,
         b"abcdefghbcdefghicdefghijdefghijkefghijklfghijklmghijklmnhijklmnoijklmnopjklmnopqklmnopqrlmnopqrsmnopqrstnopqrstu",
-    );
-    show(b"\xbd");
-    show(b"\xc9\x8c\x8e\x55");
-    show(b"\xd3");
-    show(b"\x11\xaf");
-    show(b"\xb4\x19\x0e");
-    show(b"\x74\xba\x25\x21");
-    show(b"\xc2\x99\x20\x96\x82");
-    show(b"\xe1\xdc\x72\x4d\x56\x21");
-    show(b"\x06\xe0\x76\xf5\xa4\x42\xd5");
-    show(b"\x57\x38\xc9\x29\xc4\xf4\xcc\xb6");
+    )?;
+    show(output, b"\xbd")?;
+    show(output, b"\xc9\x8c\x8e\x55")?;
+    show(output, b"\xd3")?;
+    show(output, b"\x11\xaf")?;
+    show(output, b"\xb4\x19\x0e")?;
+    show(output, b"\x74\xba\x25\x21")?;
+    show(output, b"\xc2\x99\x20\x96\x82")?;
+    show(output, b"\xe1\xdc\x72\x4d\x56\x21")?;
+    show(output, b"\x06\xe0\x76\xf5\xa4\x42\xd5")?;
+    show(output, b"\x57\x38\xc9\x29\xc4\xf4\xcc\xb6")
 }
 
 // The letter a, a million times. The `ensures` gives only the length, which lending the array needs.
@@ -53,16 +58,16 @@ fn million() -> [u8; 1_000_000]
 }
 
 // NIST's examples of one byte over and over: zeros about the end of a block, and longer messages.
-fn long() {
+fn long<O: Write>(output: &mut O) -> io::Result<()> {
     let zeros = [0u8; 1000];
-    show(&zeros[0..55]);
-    show(&zeros[0..56]);
-    show(&zeros[0..57]);
-    show(&zeros[0..64]);
-    show(&zeros);
-    show(&[0x41u8; 1000]);
-    show(&[0x55u8; 1005]);
-    show(&million());
+    show(output, &zeros[0..55])?;
+    show(output, &zeros[0..56])?;
+    show(output, &zeros[0..57])?;
+    show(output, &zeros[0..64])?;
+    show(output, &zeros)?;
+    show(output, &[0x41u8; 1000])?;
+    show(output, &[0x55u8; 1005])?;
+    show(output, &million())
 }
 
 // A message of n bytes: byte i is 7 i + n modulo 256.
@@ -76,11 +81,13 @@ fn pattern(n: usize) -> [u8; 300]
     m
 }
 
-fn main() {
-    short();
-    long();
+fn main(rt: HostRuntime) -> io::Result<()> {
+    let mut output = rt.stdout();
+    short(&mut output)?;
+    long(&mut output)?;
     for n in 0..301 {
         let m = pattern(n);
-        show(&m[0..n]);
+        show(&mut output, &m[0..n])?;
     }
+    Ok(())
 }

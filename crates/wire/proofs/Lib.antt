@@ -1,2 +1,2 @@
--- Laws of what is read of a request.
-pub mod Taken
+-- A law of what is read of a request.
+pub mod Joined

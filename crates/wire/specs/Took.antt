@@ -1,6 +1,8 @@
--- How much of a request was read.
-use Rattle.std.specs.Prelude.{◌≡◌, true, false, cond, List, ℕ, ◌+◌, ◌≤◌, eqb}
+-- How much of a request was read, and which bytes, where the reader's are known.
+use Rattle.std.specs.Prelude.{◌≡◌, true, false, cond, List, [], ◌∷◌, ◌++◌, ℕ, ◌+◌, ◌≤◌, eqb, length, Option}
+use Rattle.std.specs.Io.KnownBytes.{Consumes}
 use Rattle.io.specs.Counts.{IsPrefixLen}
+use Rattle.paper.specs.Bytes.{number}
 use Rattle.wire.specs.declared.Request.{Request}
 use Rattle.wire.specs.declared.Field.{Field}
 use Rattle.wire.specs.declared.Next.{Next}
@@ -25,3 +27,18 @@ pub record Took (r : Request) (f : Field) (b : List ℕ) : Type 0 where
 -- the rest after a field that is to have n bytes
 abbrev pub rest_after : Field → ℕ → Request
 rest_after f n = cond (eqb f.length n) f.rest (record { good = false; left = f.rest.left })
+
+-- What a reader has left before and after, where its bytes are known.
+module _ (old new : Option (List ℕ)) where
+  -- no more was taken than the request had more before than after
+  abbrev pub Within : Request → Request → Type 0
+  Within r s = (bytes : List ℕ) × (length bytes + s.left ≤ r.left) × Consumes old new bytes
+
+  -- four bytes were taken that say how many follow, and then those
+  abbrev pub Framed : ℕ → List ℕ → Type 0
+  Framed n follow = (size : List ℕ) × (length size ≡ 4) × (number size ≡ n) × Consumes old new (size ++ follow)
+
+  -- a request's size and its call's number were taken, or nothing where the input ends
+  abbrev pub Opened : Next → Type 0
+  Opened End = Consumes old new []
+  Opened (Call call r) = r.good ≡ true → Framed (r.left + 1) (call ∷ [])

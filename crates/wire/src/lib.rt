@@ -1,5 +1,6 @@
-// Requests to the driver program, as docs/DRIVER.md describes them. No contract can say which bytes a call of the operating system
-// reads. So a contract here says how many: a field's bytes lie in the buffer that is lent for them, and within the request.
+// Requests to the driver program, as docs/DRIVER.md describes them. A field's bytes lie in the buffer that is lent for them, and within the
+// request. Where a reader's bytes are known, a contract here says besides which were taken, and that none were past the request; those of
+// standard input no contract can name.
 #![tactic(auto)]
 
 mod read;

@@ -8,12 +8,13 @@ ghost use Rattle.writer_calls.specs.Inside.{Inside};
 
 use paper::{State, WriteAnswer};
 use reply::{print_bad, print_bytes, print_refused, print_text};
+use std::io::{Read, Write};
 use wire::{Request, read_at};
 
 // A proof that was written.
-fn print_proof(proof: &[u8]) {
-    print_bytes(proof);
-    print_text(b"\n");
+fn print_proof<O: Write>(output: &mut O, proof: &[u8]) {
+    print_bytes(output, proof);
+    print_text(output, b"\n");
 }
 
 // 12: a lookup proof. 13: a history proof.
@@ -34,7 +35,8 @@ fn written(
     }
 }
 
-fn write_shown(
+fn write_shown<O: Write>(
+    output: &mut O,
     call: u8,
     records: &[u8],
     heads: &[u8],
@@ -44,16 +46,23 @@ fn write_shown(
     out: &mut [u8],
 ) {
     match written(call, records, heads, state, name, epoch, out) {
-        WriteAnswer::Written { length, state: _ } => print_proof(&out[0..length]),
-        WriteAnswer::Refused { number, state: _ } => print_refused(number),
+        WriteAnswer::Written { length, state: _ } => print_proof(output, &out[0..length]),
+        WriteAnswer::Refused { number, state: _ } => print_refused(output, number),
     }
 }
 
 // 14: an audit proof.
-fn write_step(records: &[u8], heads: &[u8], state: State, epoch: u32, out: &mut [u8]) {
+fn write_step<O: Write>(
+    output: &mut O,
+    records: &[u8],
+    heads: &[u8],
+    state: State,
+    epoch: u32,
+    out: &mut [u8],
+) {
     match write_audit::write_audit(records, heads, state, epoch, out) {
-        WriteAnswer::Written { length, state: _ } => print_proof(&out[0..length]),
-        WriteAnswer::Refused { number, state: _ } => print_refused(number),
+        WriteAnswer::Written { length, state: _ } => print_proof(output, &out[0..length]),
+        WriteAnswer::Refused { number, state: _ } => print_refused(output, number),
     }
 }
 
@@ -66,14 +75,14 @@ pub struct Tables {
     pub rest: Request,
 }
 
-fn read_tables(r: Request, space: &mut [u8]) -> Tables
+fn read_tables<I: Read>(input: &mut I, r: Request, space: &mut [u8]) -> Tables
     requires { Spacious space.old }
     ensures { (result.records ≤ 688296) × (result.heads ≤ 2097184) }
 {
-    let f = read_at(r, space, 1024, 688296);
-    let g = read_at(f.rest, space, 689320, 2097184);
-    let count = wire::read_number32(g.rest);
-    let epoch = wire::read_number32(count.rest);
+    let f = read_at(input, r, space, 1024, 688296);
+    let g = read_at(input, f.rest, space, 689320, 2097184);
+    let count = wire::read_number32(input, g.rest);
+    let epoch = wire::read_number32(input, count.rest);
     let state = State {
         count: count.value,
         epoch: epoch.value,
@@ -98,7 +107,15 @@ fn lent(room: u32) -> usize
 }
 
 // Tables and name as parts of the space.
-fn write_from(call: u8, space: &[u8], t: Tables, name: usize, epoch: u32, out: &mut [u8])
+fn write_from<O: Write>(
+    output: &mut O,
+    call: u8,
+    space: &[u8],
+    t: Tables,
+    name: usize,
+    epoch: u32,
+    out: &mut [u8],
+)
     requires { Spacious space.now × (t.records ≤ 688296) × (t.heads ≤ 2097184) × (name ≤ 1024) }
 {
     let a = 1024;
@@ -106,6 +123,7 @@ fn write_from(call: u8, space: &[u8], t: Tables, name: usize, epoch: u32, out: &
     let k = a + t.records;
     let m = b + t.heads;
     write_shown(
+        output,
         call,
         &space[a..k],
         &space[b..m],
@@ -117,17 +135,25 @@ fn write_from(call: u8, space: &[u8], t: Tables, name: usize, epoch: u32, out: &
 }
 
 // A name of up to 1,024 bytes stands at the space's start.
-fn call_write(call: u8, r: Request, space: &mut [u8], spare: &mut [u8])
+fn call_write<I: Read, O: Write>(
+    input: &mut I,
+    output: &mut O,
+    call: u8,
+    r: Request,
+    space: &mut [u8],
+    spare: &mut [u8],
+)
     requires { Spacious space.old × Roomy spare.old }
 {
-    let t = read_tables(r, space);
-    let name = read_at(t.rest, space, 0, 1024);
-    let epoch = wire::read_number32(name.rest);
-    let room = wire::read_number32(epoch.rest);
+    let t = read_tables(input, r, space);
+    let name = read_at(input, t.rest, space, 0, 1024);
+    let epoch = wire::read_number32(input, name.rest);
+    let room = wire::read_number32(input, epoch.rest);
     let size = lent(room.value);
     let rest = room.rest;
     if wire::whole(rest) {
         write_from(
+            output,
             call,
             space,
             t,
@@ -136,48 +162,67 @@ fn call_write(call: u8, r: Request, space: &mut [u8], spare: &mut [u8])
             &mut spare[0..size],
         );
     } else {
-        print_bad(rest);
+        print_bad(input, output, rest);
     }
 }
 
 // The same without a name.
-fn audit_from(space: &[u8], t: Tables, epoch: u32, out: &mut [u8])
+fn audit_from<O: Write>(output: &mut O, space: &[u8], t: Tables, epoch: u32, out: &mut [u8])
     requires { Spacious space.now × (t.records ≤ 688296) × (t.heads ≤ 2097184) }
 {
     let a = 1024;
     let b = 689320;
     let k = a + t.records;
     let m = b + t.heads;
-    write_step(&space[a..k], &space[b..m], t.state, epoch, out);
+    write_step(output, &space[a..k], &space[b..m], t.state, epoch, out);
 }
 
-fn call_write_audit(r: Request, space: &mut [u8], spare: &mut [u8])
+fn call_write_audit<I: Read, O: Write>(
+    input: &mut I,
+    output: &mut O,
+    r: Request,
+    space: &mut [u8],
+    spare: &mut [u8],
+)
     requires { Spacious space.old × Roomy spare.old }
 {
-    let t = read_tables(r, space);
-    let epoch = wire::read_number32(t.rest);
-    let room = wire::read_number32(epoch.rest);
+    let t = read_tables(input, r, space);
+    let epoch = wire::read_number32(input, t.rest);
+    let room = wire::read_number32(input, epoch.rest);
     let size = lent(room.value);
     let rest = room.rest;
     if wire::whole(rest) {
-        audit_from(space, t, epoch.value, &mut spare[0..size]);
+        audit_from(output, space, t, epoch.value, &mut spare[0..size]);
     } else {
-        print_bad(rest);
+        print_bad(input, output, rest);
     }
 }
 
 // Answers a call of number 12 or 13.
-pub fn answer(call: u8, r: Request, space: &mut [u8], spare: &mut [u8])
+pub fn answer<I: Read, O: Write>(
+    input: &mut I,
+    output: &mut O,
+    call: u8,
+    r: Request,
+    space: &mut [u8],
+    spare: &mut [u8],
+)
     requires { Spacious space.old × Roomy spare.old }
     ensures { Spacious space.new × Roomy spare.new }
 {
-    call_write(call, r, space, spare);
+    call_write(input, output, call, r, space, spare);
 }
 
 // Answers call 14. It is not an arm of `answer`: the compiler would join the frames of all three writers, with their arrays, in one.
-pub fn answer_audit(r: Request, space: &mut [u8], spare: &mut [u8])
+pub fn answer_audit<I: Read, O: Write>(
+    input: &mut I,
+    output: &mut O,
+    r: Request,
+    space: &mut [u8],
+    spare: &mut [u8],
+)
     requires { Spacious space.old × Roomy spare.old }
     ensures { Spacious space.new × Roomy spare.new }
 {
-    call_write_audit(r, space, spare);
+    call_write_audit(input, output, r, space, spare);
 }
