@@ -1,2 +1,3 @@
 -- Laws of the walk over a proof's rows.
+pub mod Passed
 pub mod Turns

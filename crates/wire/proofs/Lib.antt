@@ -1,2 +1,3 @@
--- A law of what is read of a request.
+-- Laws of what is read of a request.
 pub mod Joined
+pub mod Taken
