@@ -9,8 +9,8 @@ use std::io;
 use std::io::Write;
 
 // A line: a word, and bytes as hexadecimal digits.
-fn show<O: Write>(output: &mut O, word: &str, bytes: &[u8]) -> io::Result<()> {
-    write!(output, "{word} ")?;
+fn show<O: Write>(output: &mut O, word: &[u8], bytes: &[u8]) -> io::Result<()> {
+    output.write_all(word)?;
     for b in bytes {
         write!(output, "{b:02x}")?;
     }
@@ -18,8 +18,9 @@ fn show<O: Write>(output: &mut O, word: &str, bytes: &[u8]) -> io::Result<()> {
 }
 
 // A line: a word, and a number.
-fn show_number<O: Write>(output: &mut O, word: &str, n: u64) -> io::Result<()> {
-    writeln!(output, "{word} {n}")
+fn show_number<O: Write>(output: &mut O, word: &[u8], n: u64) -> io::Result<()> {
+    output.write_all(word)?;
+    writeln!(output, "{n}")
 }
 
 // Sample bytes: byte i is 37 part + 11 n + 7 i modulo 256.
@@ -36,10 +37,10 @@ fn sample(part: u8, n: u8) -> [u8; 32] {
 fn epoch<O: Write>(output: &mut O, n: u8, e: u32) -> io::Result<()> {
     let first = sample(1, n);
     let second = sample(2, n);
-    show(output, "leaf", &nodes::leaf(&first, &second, e))?;
+    show(output, b"leaf ", &nodes::leaf(&first, &second, e))?;
     show(
         output,
-        "head",
+        b"head ",
         &heads::head(e, &first, &second, &sample(3, n)),
     )?;
     number(output, e)
@@ -50,15 +51,15 @@ fn number<O: Write>(output: &mut O, e: u32) -> io::Result<()> {
     let mut bytes = [0xEEu8; 9];
     words::write32(&mut bytes, 1, e);
     words::write16(&mut bytes, 6, (e % 65536) as u16);
-    show(output, "written", &bytes)?;
+    show(output, b"written ", &bytes)?;
     numbers(output, &bytes)
 }
 
 fn numbers<O: Write>(output: &mut O, bytes: &[u8; 9]) -> io::Result<()> {
-    show_number(output, "read32", words::read32(bytes, 1) as u64)?;
-    show_number(output, "read32", words::read32(bytes, 4) as u64)?;
-    show_number(output, "read16", words::read16(bytes, 0) as u64)?;
-    show_number(output, "read16", words::read16(bytes, 6) as u64)
+    show_number(output, b"read32 ", words::read32(bytes, 1) as u64)?;
+    show_number(output, b"read32 ", words::read32(bytes, 4) as u64)?;
+    show_number(output, b"read16 ", words::read16(bytes, 0) as u64)?;
+    show_number(output, b"read16 ", words::read16(bytes, 6) as u64)
 }
 
 fn epochs<O: Write>(output: &mut O) -> io::Result<()> {
@@ -81,13 +82,13 @@ fn node<O: Write>(output: &mut O, n: u8, length: u16) -> io::Result<()> {
     let a = sample(1, n);
     let b = sample(2, n);
     let c = sample(3, n);
-    show(output, "inner", &nodes::inner(length, &a, &b, &c))?;
-    show(output, "below 0", &nodes::join(false, length, &a, &b, &c))?;
-    show(output, "below 1", &nodes::join(true, length, &a, &b, &c))
+    show(output, b"inner ", &nodes::inner(length, &a, &b, &c))?;
+    show(output, b"below 0 ", &nodes::join(false, length, &a, &b, &c))?;
+    show(output, b"below 1 ", &nodes::join(true, length, &a, &b, &c))
 }
 
 fn nodes<O: Write>(output: &mut O) -> io::Result<()> {
-    show(output, "nothing", &nodes::nothing())?;
+    show(output, b"nothing ", &nodes::nothing())?;
     node(output, 0, 0)?;
     node(output, 1, 1)?;
     node(output, 2, 7)?;
@@ -107,7 +108,7 @@ fn label<O: Write>(output: &mut O, kind: u8, number: u16, n: usize) -> io::Resul
     requires { n ≤ 64 }
 {
     let name: &[u8] = b"!0123456789abcdefghijklmnopqrstuvwxyz@example.org/NOONHAGGLE(x)~";
-    show(output, "label", &labels::label(kind, number, &name[0..n]))
+    show(output, b"label ", &labels::label(kind, number, &name[0..n]))
 }
 
 fn labels<O: Write>(output: &mut O) -> io::Result<()> {
@@ -134,7 +135,7 @@ fn commitment<O: Write>(output: &mut O, n: usize) -> io::Result<()>
     ranges::put(&mut key, 32, &sample(5, 1));
     show(
         output,
-        "commitment",
+        b"commitment ",
         &labels::commitment(&sample(6, 1), &key[0..n]),
     )
 }
@@ -160,13 +161,13 @@ fn copy<O: Write>(output: &mut O, at: usize, from: usize) -> io::Result<()>
 {
     let mut bytes = [0xEEu8; 64];
     ranges::put(&mut bytes, at, &sample(7, 1));
-    show(output, "put", &bytes)?;
-    show(output, "digest_at", &ranges::digest_at(&bytes, from))
+    show(output, b"put ", &bytes)?;
+    show(output, b"digest_at ", &ranges::digest_at(&bytes, from))
 }
 
 fn compare<O: Write>(output: &mut O, a: &[u8], b: &[u8]) -> io::Result<()> {
-    show_number(output, "same", ranges::same(a, b) as u64)?;
-    show_number(output, "all_zero", ranges::all_zero(a) as u64)
+    show_number(output, b"same ", ranges::same(a, b) as u64)?;
+    show_number(output, b"all_zero ", ranges::all_zero(a) as u64)
 }
 
 fn comparisons<O: Write>(output: &mut O) -> io::Result<()> {
