@@ -1,4 +1,3 @@
--- `audit_form::after_records`: what was passed was in layout, so what is left decides.
 use Prim.Native.Nat.{◌-◌, ◌≤◌}
 use lib.ListN.{length}
 use Rattle.paper.specs.Layout.{times}

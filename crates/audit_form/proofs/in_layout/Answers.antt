@@ -17,9 +17,6 @@ returns-then-proof-lt206 c = sym (audit-short c.args.proof.now (bytes (goal.at.r
 pub slice_bounds-same-end : goal.slice_bounds-same-end
 slice_bounds-same-end c = sym (length-take-le 6 c.args.proof.now (omega arith))
 
--- LOST slice-aggregate-same-2 : tie.Need-slice-aggregate-same-2
--- slice-aggregate-same-2 c = search rules
-
 pub returns-then-not-same : goal.returns-then-not-same
 returns-then-not-same c =
     sym (audit-closed c.args.proof.now (bytes (goal.at.returns-then-not-same c).After-shared_slice_known-1) (sym c.same.ensures ∙ c.if-not-same.true))

@@ -1,4 +1,3 @@
--- `audit_root::lefts`: the records passed go left, so what is left decides.
 use mathlib.Core.Path.{◌≡◌}
 use Prim.Native.Nat.{◌+◌, ◌-◌, ◌*◌, ◌≤◌}
 use Rattle.audit_root.specs.Built.{lefts_at}

@@ -1,4 +1,3 @@
--- `audit_rules::each_rule`: the records passed obeyed, so what is left decides.
 use mathlib.Core.Path.{◌≡◌}
 use Prim.Native.Nat.{◌+◌, ◌-◌, ◌*◌, ◌≤◌}
 use lib.ListN.{length}

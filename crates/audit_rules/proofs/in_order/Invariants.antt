@@ -1,4 +1,3 @@
--- `audit_rules::in-order`: the pairs passed were in order, so what is left decides.
 use mathlib.Core.Path.{◌≡◌}
 use Prim.Native.Nat.{◌+◌, ◌-◌, ◌*◌, ◌≤◌}
 use lib.ListN.{length}

@@ -9,19 +9,15 @@ use Rattle.batch.proofs.Places.{bears-none, bears-pass, bears-hit}
 use Rattle.batch.proofs.again.Goals as goal
 use Rattle.batch.proofs.again.Goals.{After-same}
 
--- src/lib.rt:30:9
 pub name_in-name-requires : goal.name_in-name-requires
 name_in-name-requires c = c.requires.1 c.args.i c.requires.0
 
--- src/lib.rt:31:5
 pub loop-j-init : goal.loop-j-init
 loop-j-init c = let i = c.args.i in (omega arith, search rules, ap (bears_from _ _ _) (sym (add-one i)))
 
--- src/lib.rt:32:17
 pub name_in-requires : goal.name_in-requires
 name_in-requires c = c.requires.1 _ c.loop-j-test.true
 
--- src/lib.rt:32:12
 pub same-requires : goal.same-requires
 same-requires c = tt
 
@@ -34,14 +30,12 @@ returns-then-same c =
     let at = c.loop-j in
     sym (at.invariant.2 ∙ bears-hit c.args.n c.args.s.now c.args.i at.j c.loop-j-test.true (sym (compared (goal.at.returns-then-same c).After-same) ∙ c.if-same.true))
 
--- src/lib.rt:31:5
 pub loop-j-preserved : goal.loop-j-preserved
 loop-j-preserved c =
     let at = c.loop-j in
     let h = c.loop-j-test.true in
     (omega arith, omega (arith, h), at.invariant.2 ∙ bears-pass c.args.n c.args.s.now c.args.i at.j h (sym (compared (goal.at.loop-j-preserved c).After-same) ∙ c.if-same.false))
 
--- src/lib.rt:26:1
 pub returns : goal.returns
 returns c =
     let at = c.loop-j in

@@ -1,4 +1,3 @@
--- `batch::again`: none of the updates passed has the name, so the rest decides.
 use mathlib.Core.Path.{◌≡◌}
 use Prim.Native.Nat.{suc, ◌-◌, ◌≤◌}
 use Rattle.batch.specs.Places.{bears_from}

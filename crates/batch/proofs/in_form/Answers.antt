@@ -11,12 +11,10 @@ use Rattle.batch.proofs.in_form.Goals.{After-shared_slice_known-1, Else-not-fill
 bytes : (c : After-shared_slice_known-1) → Bytewise c.args.s.now
 bytes c = bytewise c.args.s.now c.type_inv.s
 
--- src/lib.rt:32:9
 pub returns-then-not-filled : goal.returns-then-not-filled
 returns-then-not-filled c =
     sym (formed-nameless c.args.s.now c.args.i (bytes (goal.at.returns-then-not-filled c).After-shared_slice_known-1) c.requires (sym c.filled.ensures ∙ c.if-not-filled.true))
 
--- src/lib.rt:35:9
 pub returns-then-not-filled-2 : goal.returns-then-not-filled-2
 returns-then-not-filled-2 c =
     sym (formed-keyless c.args.s.now c.args.i (bytes (goal.at.returns-then-not-filled-2 c).After-shared_slice_known-1) c.requires (sym c.filled-2.ensures ∙ c.if-not-filled-2.true))
@@ -28,12 +26,10 @@ name-formed c = sym c.filled.ensures ∙ c.if-not-filled.false
 key-formed : (c : Else-not-filled-2) → key_formed c.args.s.now c.args.i ≡ true
 key-formed c = sym c.filled-2.ensures ∙ c.if-not-filled-2.false
 
--- src/lib.rt:37:13
 pub name_in-requires : goal.name_in-requires
 name_in-requires c =
     lies-by c.args.s.now c.args.i (bytes (goal.at.name_in-requires c).After-shared_slice_known-1) c.requires (name-formed c)
 
--- src/lib.rt:26:1
 pub returns : goal.returns
 returns c =
     c.is_name.ensures ∙ ap is_name c.name_in.ensures.bytes ∙ sym (formed-name c.args.s.now c.args.i (bytes (goal.at.returns c).After-shared_slice_known-1) c.requires (name-formed (goal.at.returns c).Else-not-filled-2) (key-formed (goal.at.returns c).Else-not-filled-2))

@@ -11,22 +11,18 @@ use Rattle.ranges.proofs.Slices.{bytewise}
 use Rattle.batch.proofs.Form.{formed, batch-read, batch-bad}
 use Rattle.batch.proofs.in_layout.Goals as goal
 
--- src/lib.rt:45:5
 pub loop-i-init : goal.loop-i-init
 loop-i-init c = (search rules, λ j h. absurd (omega arith))
 
--- src/lib.rt:46:13
 pub in_form-requires : goal.in_form-requires
 in_form-requires c = let h = c.loop-i-test.true in omega (arith, h, c.requires)
 
--- src/lib.rt:47:13
 pub returns-then-not-in_form : goal.returns-then-not-in_form
 returns-then-not-in_form c =
     let s = c.args.s.now in
     let at = c.loop-i in
     sym (ap in_layout (batch-bad s c.args.n (bytewise s c.type_inv.s) c.requires at.i c.loop-i-test.true (sym c.in_form.ensures ∙ not-true _ c.if-not-in_form.true-raw)))
 
--- src/lib.rt:45:5
 pub loop-i-preserved : goal.loop-i-preserved
 loop-i-preserved c =
     let s = c.args.s.now in
@@ -35,7 +31,6 @@ loop-i-preserved c =
     let e : formed s at.i ≡ true = sym c.in_form.ensures ∙ not-false _ c.if-not-in_form.false-raw in
     (omega (arith, h), λ j l. below_more (λ j. formed s j ≡ true) at.i at.invariant.1 e j (omega arith))
 
--- src/lib.rt:41:1
 pub returns : goal.returns
 returns c =
     let s = c.args.s.now in

@@ -1,4 +1,3 @@
--- `batch::in_layout`: each update passed is in layout.
 use mathlib.Core.Path.{◌≡◌}
 use mathlib.Core.Bool.{true}
 use Prim.Native.Nat.{ℕ, ◌-◌, ◌≤◌, ◌<◌}

@@ -5,28 +5,23 @@ use mathlib.Core.Path.{refl, sym, ◌∙◌}
 use Rattle.batch.proofs.Places.{once-end, once-pass, once-hit}
 use Rattle.batch.proofs.no_name_twice.Goals as goal
 
--- src/lib.rt:44:5
 pub loop-i-init : goal.loop-i-init
 loop-i-init c = (search rules, refl)
 
--- src/lib.rt:45:12
 pub again-requires : goal.again-requires
 again-requires c = (c.loop-i-test.true, c.requires)
 
--- src/lib.rt:46:13
 pub returns-then-again : goal.returns-then-again
 returns-then-again c =
     let at = c.loop-i in
     sym (at.invariant.1 ∙ once-hit c.args.n c.args.s.now at.i c.loop-i-test.true (sym c.again.ensures ∙ c.if-again.true))
 
--- src/lib.rt:44:5
 pub loop-i-preserved : goal.loop-i-preserved
 loop-i-preserved c =
     let at = c.loop-i in
     let h = c.loop-i-test.true in
     (omega (arith, h), at.invariant.1 ∙ once-pass c.args.n c.args.s.now at.i h (sym c.again.ensures ∙ c.if-again.false))
 
--- src/lib.rt:40:1
 pub returns : goal.returns
 returns c =
     let at = c.loop-i in

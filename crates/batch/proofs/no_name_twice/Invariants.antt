@@ -1,4 +1,3 @@
--- `batch::no_name_twice`: no name of the updates passed is there again, so the rest decides.
 use mathlib.Core.Path.{◌≡◌}
 use Prim.Native.Nat.{◌-◌, ◌≤◌}
 use lib.ListN.{drop}

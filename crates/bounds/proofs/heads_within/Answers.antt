@@ -8,17 +8,14 @@ use Rattle.paper.specs.Table.{heads_within}
 use Rattle.bounds.proofs.Multiple.{no-multiple, multiple}
 use Rattle.bounds.proofs.heads_within.Goals as goal
 
--- src/lib.rt:21:9
 pub returns-then-heads-ne0 : goal.returns-then-heads-ne0
 unfolding heads_within
 returns-then-heads-ne0 c = sym (no-multiple _ _ c.if-heads-ne0.true)
 
--- src/lib.rt:24:9
 pub returns-then-heads-lt1 : goal.returns-then-heads-lt1
 unfolding heads_within
 returns-then-heads-lt1 c = sym (multiple _ _ c.if-heads-ne0.false ∙ rw (lt-leb 1 _ c.if-heads-lt1.true))
 
--- src/lib.rt:17:1
 pub returns : goal.returns
 unfolding heads_within
 returns c =

@@ -32,19 +32,15 @@ room c = omega (arith, few c, c.gather-n.auto.row, c.requires.leaves)
 reach : (c : After-gather-n) → c.gather-n.result * 64 ≤ length c.args.slots.now
 reach c = omega (arith, few c, c.requires.digests)
 
--- src/lib.rt:32:16
 pub overflow_mul-size : goal.overflow_mul-size
 overflow_mul-size c = let h = room (goal.at.overflow_mul-size c).After-gather-n in search rules
 
--- src/lib.rt:33:17
 pub slice_bounds-arrange-end : goal.slice_bounds-arrange-end
 slice_bounds-arrange-end c = room (goal.at.slice_bounds-arrange-end c).After-gather-n
 
--- src/lib.rt:33:17
 pub slice_bounds-arrange-end-2 : goal.slice_bounds-arrange-end-2
 slice_bounds-arrange-end-2 c = sym (length-take-le _ _ (room (goal.at.slice_bounds-arrange-end-2 c).After-gather-n))
 
--- src/lib.rt:33:9
 pub arrange-requires : goal.arrange-requires
 arrange-requires c = length-take-le _ _ (room (goal.at.arrange-requires c).After-gather-n)
 
@@ -68,7 +64,6 @@ found : (c : After-arrange) → Arranged (leaves (goal.at.After-arrange c).After
 found c =
     same-leaves (leaves (goal.at.After-arrange c).After-gather-n) c.gather-n.result _ _ _ _ c.gather-n.ensures (room (goal.at.After-arrange c).After-gather-n) c.arrange.auto.s c.arrange.ensures
 
--- src/lib.rt:34:9
 pub returns-then-not-arrange : goal.returns-then-not-arrange
 returns-then-not-arrange c =
     record {
@@ -82,23 +77,18 @@ returns-then-not-arrange c =
 alone : (c : Else-not-arrange) → c.arrange.result ≡ true
 alone c = not-false c.arrange.result c.if-not-arrange.false-raw
 
--- src/lib.rt:40:16
 pub overflow_mul-room : goal.overflow_mul-room
 overflow_mul-room c = let h = reach (goal.at.overflow_mul-room c).After-gather-n in search rules
 
--- src/lib.rt:44:22
 pub slice_bounds-store-end : goal.slice_bounds-store-end
 slice_bounds-store-end c = within (goal.at.slice_bounds-store-end c).After-arrange
 
--- src/lib.rt:44:22
 pub slice_bounds-store-end-2 : goal.slice_bounds-store-end-2
 slice_bounds-store-end-2 c = sym (length-take-le _ _ (within (goal.at.slice_bounds-store-end-2 c).After-arrange))
 
--- src/lib.rt:44:39
 pub slice_bounds-store-end-3 : goal.slice_bounds-store-end-3
 slice_bounds-store-end-3 c = reach (goal.at.slice_bounds-store-end-3 c).After-gather-n
 
--- src/lib.rt:44:39
 pub slice_bounds-store-end-4 : goal.slice_bounds-store-end-4
 slice_bounds-store-end-4 c = sym (length-take-le _ _ (reach (goal.at.slice_bounds-store-end-4 c).After-gather-n))
 
@@ -106,12 +96,10 @@ in-order : (c : Else-not-arrange) → Sorted c.gather-n.result (take (c.gather-n
 in-order c =
     ordered (leaves (goal.at.Else-not-arrange c).After-gather-n) c.gather-n.result _ _ _ _ c.gather-n.ensures (room (goal.at.Else-not-arrange c).After-gather-n) c.arrange.auto.s c.arrange.ensures (alone c)
 
--- src/lib.rt:44:16
 pub store-requires : goal.store-requires
 store-requires c =
     (in-order (goal.at.store-requires c).Else-not-arrange, length-take-le _ _ (reach (goal.at.store-requires c).After-gather-n))
 
--- src/lib.rt:20:1
 pub returns : goal.returns
 returns c =
     record {

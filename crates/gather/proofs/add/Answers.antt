@@ -5,18 +5,15 @@ use Rattle.gather.proofs.Row.{gain-none}
 use Rattle.gather.proofs.Leaves.{by-later, by-then}
 use Rattle.gather.proofs.add.Goals as goal
 
--- src/lib.rt:71:9
 pub returns-then-epoch-epoch_at : goal.returns-then-epoch-epoch_at
 returns-then-epoch-epoch_at c =
     rw (by-later (record_at c.args.records.now c.args.i) c.args.old c.args.epoch (omega (arith, c.epoch_at.ensures, c.if-epoch-epoch_at.true))) (gain-none c.args.row.now c.args.n)
 
--- src/lib.rt:74:9
 pub returns-then-old : goal.returns-then-old
 returns-then-old c =
     let h = c.if-epoch-epoch_at.false in
     rw (by-then (record_at c.args.records.now c.args.i) c.args.old c.args.epoch (omega (arith, c.epoch_at.ensures, h)), c.if-old.true) c.add_old.ensures
 
--- src/lib.rt:66:1
 pub returns : goal.returns
 returns c =
     let h = c.if-epoch-epoch_at.false in

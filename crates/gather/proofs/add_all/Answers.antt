@@ -16,11 +16,9 @@ use Rattle.gather.proofs.Leaves.{name-few, key-few, all-unmarked, all-marked, ve
 use Rattle.gather.proofs.add_all.Goals as goal
 use Rattle.gather.proofs.add_all.Goals.{After-marker_of-j}
 
--- src/lib.rt:45:30
 pub label-requires : goal.label-requires
 label-requires c = rw c.name_at-name.ensures.bytes (name-few _ _)
 
--- src/lib.rt:45:55
 pub commitment-requires : goal.commitment-requires
 commitment-requires c = rw c.key_at.ensures.bytes (key-few _ _)
 
@@ -47,25 +45,20 @@ few c = rw c.marker_of-j.ensures (marker-few _ (small c))
 shifted : (c : After-marker_of-j) → 1 * 2 ^ c.marker_of-j.result % 2 ^ 32 ≡ 2 ^ log2 (record_here c).version
 shifted c = marker-shift 32 _ _ (omega arith) (small c) c.marker_of-j.ensures ∙ ap (λ v. 2 ^ log2 v) c.version_at-version.ensures
 
--- src/lib.rt:47:8
 pub overflow_shl-j : goal.overflow_shl-j
 overflow_shl-j c = omega (arith, few c)
 
--- src/lib.rt:48:9
 pub returns-then-j-version : goal.returns-then-j-version
 returns-then-j-version c =
     let r = record_here (goal.at.returns-then-j-version c).After-marker_of-j in
     rw (all-unmarked r (λ e. absurd (c.if-j-version.true (shifted (goal.at.returns-then-j-version c).After-marker_of-j ∙ e ∙ sym c.version_at-version.ensures)))) (first (goal.at.returns-then-j-version c).After-marker_of-j)
 
--- src/lib.rt:50:31
 pub overflow_cast-j : goal.overflow_cast-j
 overflow_cast-j c = omega (arith, few (goal.at.overflow_cast-j c).After-marker_of-j)
 
--- src/lib.rt:50:22
 pub label-requires-2 : goal.label-requires-2
 label-requires-2 c = rw c.name_at-name.ensures.bytes (name-few _ _)
 
--- src/lib.rt:37:1
 pub returns : goal.returns
 returns c =
     let r = record_here (goal.at.returns c).After-marker_of-j in

@@ -10,16 +10,13 @@ use Rattle.gather.proofs.Row.{gain-none}
 use Rattle.gather.proofs.Leaves.{name-few, old-none, old-one, replaced_leaf}
 use Rattle.gather.proofs.add_old.Goals as goal
 
--- src/lib.rt:60:9
 pub returns-then-version-le1 : goal.returns-then-version-le1
 returns-then-version-le1 c =
     rw (old-none (record_at c.args.records.now c.args.i) (omega (arith, c.version_at-version.ensures))) (gain-none c.args.row.now c.args.n)
 
--- src/lib.rt:62:22
 pub label-requires : goal.label-requires
 label-requires c = rw c.name_at.ensures.bytes (name-few _ _)
 
--- src/lib.rt:54:1
 pub returns : goal.returns
 returns c =
     let r = record_at c.args.records.now c.args.i in

@@ -7,18 +7,15 @@ use Rattle.gather.proofs.Row.{gain-none, gain-more}
 use Rattle.gather.proofs.Leaves.{by-none, by-snoc, few-leaves}
 use Rattle.gather.proofs.gather.Goals as goal
 
--- src/lib.rt:84:5
 pub loop-i-init : goal.loop-i-init
 loop-i-init c = (omega arith, refl, omega arith, rw (by-none c.args.old c.args.epoch c.args.records.now) (gain-none c.args.row.now c.args.n))
 
--- src/lib.rt:85:9
 pub add-m-requires : goal.add-m-requires
 add-m-requires c =
     let at = c.loop-i in
     let h = c.loop-i-test.true in
     (c.requires.stand at.i h, omega (arith, c.requires.fits, at.invariant.1, at.invariant.2, h))
 
--- src/lib.rt:84:5
 pub loop-i-preserved : goal.loop-i-preserved
 loop-i-preserved c =
     let at = c.loop-i in
@@ -31,11 +28,9 @@ loop-i-preserved c =
       rw (add-one at.i, by-snoc c.args.old c.args.epoch records at.i) (gain-more at.invariant.3 more.ensures),
     )
 
--- src/lib.rt:79:1
 pub shape_of-row : goal.shape_of-row
 shape_of-row c = c.loop-i.invariant.1
 
--- src/lib.rt:79:1
 pub returns : goal.returns
 returns c =
     let at = c.loop-i in

@@ -1,4 +1,3 @@
--- `gather::gather`: the records passed have given their leaves.
 use mathlib.Core.Path.{◌≡◌}
 use Prim.Native.Nat.{◌+◌, ◌-◌, ◌*◌, ◌≤◌}
 use lib.ListN.{length}

@@ -7,7 +7,6 @@ use Rattle.paper.specs.Bytes.{be, pasted}
 use Rattle.gather.proofs.Row.{gain-one}
 use Rattle.gather.proofs.put_leaf.Goals as goal
 
--- src/lib.rt:24:1
 pub returns : goal.returns
 returns c =
     let first = c.put in

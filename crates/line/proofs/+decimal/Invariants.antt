@@ -1,4 +1,3 @@
--- `line::decimal`: a number's digits are those of its tenth, and its last one. The number falls.
 use Rattle.line.proofs.+decimal.Given as goal
 
 abbrev pub decreases-decimal : goal.decreases-decimal

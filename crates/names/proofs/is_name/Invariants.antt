@@ -1,4 +1,3 @@
--- `names::is_name`: the bytes passed were in their range, so the rest decides.
 use mathlib.Core.Path.{◌≡◌}
 use Prim.Native.Nat.{◌-◌, ◌≤◌}
 use lib.ListN.{length, drop}

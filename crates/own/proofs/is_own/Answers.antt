@@ -5,13 +5,11 @@ use Rattle.paper.specs.Bytes.{same}
 use Rattle.own.proofs.Versions.{own-later, own-then}
 use Rattle.own.proofs.is_own.Goals as goal
 
--- src/lib.rt:21:9
 pub returns-then-epoch-epoch_at : goal.returns-then-epoch-epoch_at
 returns-then-epoch-epoch_at c =
     let a = c.args in
     sym (own-later a.records.now a.name.now a.epoch a.i (omega (arith, c.epoch_at.ensures, c.if-epoch-epoch_at.true)))
 
--- src/lib.rt:16:1
 pub returns : goal.returns
 returns c =
     let a = c.args in

@@ -7,15 +7,12 @@ use Rattle.table.proofs.Last.{last_none, last-yes, last-no}
 use Rattle.own.specs.Own.{own_by}
 use Rattle.own.proofs.latest.Goals as goal
 
--- src/lib.rt:32:5
 pub loop-at-init : goal.loop-at-init
 loop-at-init c = (omega arith, refl)
 
--- src/lib.rt:33:12
 pub is_own-requires : goal.is_own-requires
 is_own-requires c = c.requires _ (omega (arith, c.loop-at.invariant.0, c.loop-at-test.true))
 
--- src/lib.rt:34:13
 pub returns-then-is_own : goal.returns-then-is_own
 returns-then-is_own c =
     let a = c.args in
@@ -23,7 +20,6 @@ returns-then-is_own c =
     let e : c.loop-at.at ≡ suc (c.loop-at.at - 1) = omega (arith, c.loop-at-test.true) in
     e ∙ sym (c.loop-at.invariant.1 ∙ ap (last_where t) e ∙ last-yes t (c.loop-at.at - 1) (sym c.is_own.ensures ∙ c.if-is_own.true))
 
--- src/lib.rt:32:5
 pub loop-at-preserved : goal.loop-at-preserved
 loop-at-preserved c =
     let a = c.args in
@@ -31,7 +27,6 @@ loop-at-preserved c =
     let e : c.loop-at.at ≡ suc (c.loop-at.at - 1) = omega (arith, c.loop-at-test.true) in
     (omega (arith, c.loop-at.invariant.0), c.loop-at.invariant.1 ∙ ap (last_where t) e ∙ last-no t (c.loop-at.at - 1) (sym c.is_own.ensures ∙ c.if-is_own.false))
 
--- src/lib.rt:27:1
 pub returns : goal.returns
 returns c =
     let a = c.args in

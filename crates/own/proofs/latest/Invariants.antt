@@ -1,4 +1,3 @@
--- `own::latest`: from the last record back, none of those passed is the name's.
 use mathlib.Core.Path.{◌≡◌}
 use Prim.Native.Nat.{◌≤◌}
 use Rattle.table.specs.Index.{last_where}

@@ -1,4 +1,3 @@
--- `own::versions_by`: the versions among the records passed are counted.
 use mathlib.Core.Path.{◌≡◌}
 use Prim.Native.Nat.{◌-◌, ◌≤◌}
 use lib.ListN.{length}

@@ -1,4 +1,3 @@
--- `ranges::all_zero`: the bytes passed were zero, so the rest decides.
 use mathlib.Core.Path.{◌≡◌}
 use Prim.Native.Nat.{◌-◌, ◌≤◌}
 use lib.Dec.{eqb}

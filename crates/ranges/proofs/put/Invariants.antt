@@ -1,4 +1,3 @@
--- `ranges::put`: after i turns the first i bytes of `src` are laid over `dst`.
 use mathlib.Core.Path.{◌≡◌}
 use Prim.Native.Nat.{◌-◌, ◌≤◌}
 use lib.ListN.{length}

@@ -1,4 +1,3 @@
--- `ranges::same`: strings that differ in length or at a place are not the same; those that agree at each place are.
 use mathlib.Core.Path.{◌≡◌}
 use Prim.Native.Nat.{ℕ, ◌-◌, ◌≤◌, ◌<◌}
 use lib.ListN.{length, get_or}

@@ -1,4 +1,3 @@
--- `sha256::digest` meets its contract: its first i bytes are those of the definition. Assumes nothing.
 use mathlib.Core.Path.{◌≡◌}
 use Prim.Native.Nat.{◌≤◌, ◌-◌}
 use lib.ListN.{length, take}

@@ -1,4 +1,3 @@
--- `sha256::put` meets its contract: the stores still to come, over those done, give the whole run. Assumes nothing.
 use mathlib.Core.Path.{◌≡◌}
 use Prim.Native.Nat.{◌+◌, ◌≤◌, ◌-◌}
 use lib.ListN.{length, drop}

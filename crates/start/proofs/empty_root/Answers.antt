@@ -7,6 +7,5 @@ use Rattle.paper.specs.Strings.{inner_string}
 use Rattle.start.proofs.Started.{empty-root}
 use Rattle.start.proofs.empty_root.Goals as goal
 
--- src/lib.rt:16:1
 pub returns : goal.returns
 returns c = c.inner.ensures ∙ ap (λ d. sha256 (inner_string 0 (zeros wide) d d)) c.nothing-none.ensures ∙ sym empty-root

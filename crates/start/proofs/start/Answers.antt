@@ -11,15 +11,12 @@ use mathlib.Core.Bool.{true}
 use Rattle.start.proofs.Started.{unstarted, started, one-head}
 use Rattle.start.proofs.start.Goals as goal
 
--- src/lib.rt:27:9
 pub returns-then-not-heads_within : goal.returns-then-not-heads_within
 returns-then-not-heads_within c = sym (unstarted c.args.heads.now (sym c.heads_within.ensures ∙ c.if-not-heads_within.true))
 
--- src/lib.rt:30:5
 pub put-requires : goal.put-requires
 put-requires c = let h = one-head c.args.heads.now (sym c.heads_within.ensures ∙ c.if-not-heads_within.false) in omega (arith, h, c.head.type_inv)
 
--- src/lib.rt:23:1
 pub returns : goal.returns
 returns c =
     let heads = c.args.heads.now in

@@ -1,4 +1,3 @@
--- `tree::split`: all leaves before `low` have a 0, and all from `high` on a 1; the leaf in the middle decides for those on its side.
 use mathlib.Core.Path.{◌≡◌}
 use mathlib.Core.Bool.{true, false}
 use Prim.Native.Nat.{ℕ, ◌-◌, ◌≤◌, ◌<◌}

@@ -1,5 +1,3 @@
--- `tree_path::way_below`: the label leaves the tree at a fork whose prefix it has not, and goes down on its side otherwise. What is left
--- of 256 bits falls.
 use Prim.Native.Nat.{◌-◌}
 use Rattle.tree_path.proofs.+way_below.Given as goal
 

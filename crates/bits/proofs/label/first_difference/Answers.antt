@@ -1,5 +1,4 @@
 -- `bits::label::first_difference` gives the first place at which the labels differ, or the shorter one's end.
--- Invariants: no loop has gone past an end, and the bits before the place agree. Assumes nothing.
 use mathlib.Core.Path.{sym, ◌∙◌}
 use mathlib.Core.Logic.{⊎_elim}
 use Prim.Native.Nat.{◌+◌, ◌*◌}

@@ -1,4 +1,3 @@
--- `bits::label::first_difference` gives the first place at which the labels differ, or the shorter one's end.
 -- Invariants: no loop has gone past an end, and the bits before the place agree. Assumes nothing.
 use Prim.Native.Nat.{◌+◌, ◌-◌, ◌*◌, ◌≤◌}
 use lib.ListN.{length}

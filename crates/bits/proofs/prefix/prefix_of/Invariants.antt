@@ -1,5 +1,3 @@
--- `bits::prefix::prefix_of` packs the first n bits. The loop's invariant: the bits of the first i bytes are packed.
--- It ends with the 32 bytes, with the label or with the n bits, and then all are. Assumes nothing.
 use mathlib.Core.Path.{◌≡◌}
 use Prim.Native.Nat.{◌-◌, ◌*◌, ◌≤◌}
 use lib.ListN.{take}

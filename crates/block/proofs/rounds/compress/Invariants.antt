@@ -1,4 +1,3 @@
--- `block::rounds::compress` meets its contract: after t rounds, eight in a turn, the working variables are those of t rounds. Assumes nothing.
 use Rattle.std.proofs.Common.{◌≡◌, ◌-◌, ◌%◌, ◌≤◌}
 use Rattle.fips.specs.Sha256 as S
 use Rattle.block.proofs.rounds.compress.Given as goal

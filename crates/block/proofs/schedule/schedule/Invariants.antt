@@ -1,4 +1,3 @@
--- `block::schedule::schedule` meets its contract: its first t words are those of the definition. Assumes nothing.
 use Rattle.std.proofs.Common.{◌≡◌, ◌-◌, ◌≤◌, length, take}
 use Rattle.fips.specs.Sha256 as S
 use Rattle.block.proofs.schedule.schedule.Given as goal

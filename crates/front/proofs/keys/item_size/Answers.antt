@@ -3,7 +3,6 @@ use mathlib.Core.Path.{refl, sym}
 use Rattle.front.proofs.Items.{read-size}
 use Rattle.front.proofs.keys.item_size.Goals as goal
 
--- src/keys.rt:17:1
 pub returns : goal.returns
 returns c =
     sym (read-size c.args.records.now c.args.i c.requires c.key_at.result.now _ c.key_at.ensures.bytes refl)

@@ -8,20 +8,16 @@ use lib.ListN.{length}
 use Rattle.front.proofs.Items.{item-most, bytes-start, long-yes, length-yes, long-no, bytes-no}
 use Rattle.front.proofs.keys.items_size.Goals as goal
 
--- src/keys.rt:44:5
 pub loop-i-init : goal.loop-i-init
 loop-i-init c =
     (c.requires.1, omega arith, omega arith, sym (ap length (bytes-start c.args.records.now c.args.name.now c.args.epoch c.args.from)))
 
--- src/keys.rt:45:12
 pub is_own-requires : goal.is_own-requires
 is_own-requires c = c.requires.0 _ c.loop-i-test.true
 
--- src/keys.rt:46:21
 pub item_size-size-requires : goal.item_size-size-requires
 item_size-size-requires c = c.requires.0 _ c.loop-i-test.true
 
--- src/keys.rt:46:13
 pub overflow_add-size : goal.overflow_add-size
 overflow_add-size c =
     let stands = c.requires.0 _ c.loop-i-test.true in
@@ -30,7 +26,6 @@ overflow_add-size c =
     let b : c.loop-i.size + c.item_size-size.result ≤ suc c.loop-i.i * 168 = omega (arith, c.loop-i.invariant.1, most, c.item_size-size.ensures) in
     search rules
 
--- src/keys.rt:44:5
 pub loop-i-preserved-then-is_own : goal.loop-i-preserved-then-is_own
 loop-i-preserved-then-is_own c =
     let a = c.args in
@@ -46,7 +41,6 @@ loop-i-preserved-then-is_own c =
       rw (add-one i) (omega (arith, c.loop-i.invariant.3, c.item_size-size.ensures, more)),
     )
 
--- src/keys.rt:44:5
 pub loop-i-preserved : goal.loop-i-preserved
 loop-i-preserved c =
     let a = c.args in
@@ -60,7 +54,6 @@ loop-i-preserved c =
       rw (add-one i) (c.loop-i.invariant.3 ∙ sym (ap length (bytes-no s a.name.now a.epoch a.from i long own))),
     )
 
--- src/keys.rt:38:1
 pub returns : goal.returns
 returns c =
     let e : c.loop-i.i ≡ c.args.count = omega (arith, c.loop-i.invariant.0, c.loop-i-test.false) in

@@ -1,4 +1,3 @@
--- `front::keys::items_size`: the keys among the records passed are measured.
 use mathlib.Core.Path.{◌≡◌}
 use Prim.Native.Nat.{◌-◌, ◌*◌, ◌≤◌}
 use lib.ListN.{length}

@@ -17,34 +17,27 @@ room c =
 few : (c : After-key_at-key) → length c.key_at-key.result.now ≤ 64
 few c = rw c.key_at-key.ensures.bytes (key-few c.args.records.now c.args.i)
 
--- src/keys.rt:31:15
 pub overflow_cast-out : goal.overflow_cast-out
 overflow_cast-out c = omega (arith, few c)
 
--- src/keys.rt:31:5
 pub bounds-out-at : goal.bounds-out-at
 bounds-out-at c = omega (arith, room c)
 
--- src/keys.rt:32:5
 pub put-requires : goal.put-requires
 put-requires c =
     omega (arith, room (goal.at.put-requires c).After-key_at-key, length-set c.args.out.now c.args.at (length c.key_at-key.result.now))
 
--- src/keys.rt:33:5
 pub put-requires-2 : goal.put-requires-2
 put-requires-2 c =
     omega (arith, room (goal.at.put-requires-2 c).After-key_at-key, length-set c.args.out.now c.args.at (length c.key_at-key.result.now), c.put.auto.dst, c.opening_at.type_inv)
 
--- src/keys.rt:34:5
 pub overflow_add-result-2 : goal.overflow_add-result-2
 overflow_add-result-2 c = let h = room (goal.at.overflow_add-result-2 c).After-key_at-key in search rules
 
--- src/keys.rt:25:1
 pub shape_of-out : goal.shape_of-out
 shape_of-out c =
     c.put-2.auto.dst ∙ c.put.auto.dst ∙ length-set c.args.out.now c.args.at (length c.key_at-key.result.now)
 
--- src/keys.rt:25:1
 pub returns : goal.returns
 returns c =
     let a = c.args in

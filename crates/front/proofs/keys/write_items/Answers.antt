@@ -6,16 +6,13 @@ use Rattle.path_fields.specs.Written.{Wrote}
 use Rattle.front.proofs.Items.{wrote-start, long-yes, wrote-yes, long-no, bytes-no, bytes-room}
 use Rattle.front.proofs.keys.write_items.Goals as goal
 
--- src/keys.rt:70:5
 pub loop-i-init : goal.loop-i-init
 loop-i-init c =
     (c.requires.1, refl, omega arith, wrote-start c.args.records.now c.args.name.now c.args.epoch c.args.from c.args.out.now c.args.at)
 
--- src/keys.rt:71:12
 pub is_own-requires : goal.is_own-requires
 is_own-requires c = c.requires.0 _ c.loop-i-test.true
 
--- src/keys.rt:72:13
 pub write_item-next-requires : goal.write_item-next-requires
 write_item-next-requires c =
     let a = c.args in
@@ -23,7 +20,6 @@ write_item-next-requires c =
     let room = bytes-room a.records.now a.name.now a.epoch a.from c.loop-i.i a.count h c.loop-i.invariant.2 (sym c.is_own.ensures ∙ c.if-is_own.true) in
     (c.requires.0 _ h, omega (arith, c.requires.2, c.loop-i.invariant.1, c.loop-i.invariant.3.behind, room))
 
--- src/keys.rt:70:5
 pub loop-i-preserved-then-is_own : goal.loop-i-preserved-then-is_own
 loop-i-preserved-then-is_own c =
     let a = c.args in
@@ -37,7 +33,6 @@ loop-i-preserved-then-is_own c =
       rw (add-one i) (wrote-yes s a.name.now a.epoch a.from i long own a.out.now c.loop-i.out c.write_item-next.new.out a.at c.loop-i.next _ (omega (arith, c.requires.2)) c.loop-i.invariant.3 c.write_item-next.ensures),
     )
 
--- src/keys.rt:70:5
 pub loop-i-preserved : goal.loop-i-preserved
 loop-i-preserved c =
     let a = c.args in
@@ -51,11 +46,9 @@ loop-i-preserved c =
       rw (add-one i) (subst (λ x. Wrote a.out.now a.at x c.loop-i.out c.loop-i.next) (sym (bytes-no s a.name.now a.epoch a.from i long own)) c.loop-i.invariant.3),
     )
 
--- src/keys.rt:56:1
 pub shape_of-out : goal.shape_of-out
 shape_of-out c = c.loop-i.invariant.1
 
--- src/keys.rt:56:1
 pub returns : goal.returns
 returns c =
     let e : c.loop-i.i ≡ c.args.count = omega (arith, c.loop-i.invariant.0, c.loop-i-test.false) in

@@ -1,4 +1,3 @@
--- `front::keys::write_items`: the keys among the records passed are written.
 use mathlib.Core.Path.{◌≡◌}
 use Prim.Native.Nat.{◌-◌, ◌≤◌}
 use lib.ListN.{length}

@@ -6,7 +6,6 @@ use Rattle.paper.specs.Table.{previous_head}
 use Rattle.front.proofs.Front.{previous-some}
 use Rattle.front.proofs.opening.previous_head.Goals as goal
 
--- src/opening.rt:14:1
 pub returns : goal.returns
 returns c =
     let a = c.args in

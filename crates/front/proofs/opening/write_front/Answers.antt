@@ -4,7 +4,6 @@ use Rattle.paper.specs.Strings.{Head}
 use Rattle.front.proofs.Front.{front-laid}
 use Rattle.front.proofs.opening.write_front.Goals as goal
 
--- src/opening.rt:25:1
 pub returns : goal.returns
 returns c =
     let a = c.args in

@@ -14,7 +14,6 @@ use Rattle.level.proofs.Row.{copied, fits}
 use Rattle.level.proofs.entry.tree_path.Goals as goal
 use Rattle.level.proofs.entry.tree_path.Goals.{After-row-3-1, Else-not-entries_within}
 
--- src/entry.rt:43:9
 pub returns-then-not-entries_within : goal.returns-then-not-entries_within
 unfolding tree_path
 returns-then-not-entries_within c =
@@ -25,18 +24,15 @@ returns-then-not-entries_within c =
 within : (c : Else-not-entries_within) → entries_within c.args.entries.now ≡ true
 within c = sym c.entries_within.ensures ∙ c.if-not-entries_within.false
 
--- src/entry.rt:46:9
 pub returns-then-label-ne32 : goal.returns-then-label-ne32
 unfolding tree_path
 returns-then-label-ne32 c =
     let a = c.args in
     sym (out-of-bounds a.out.now _ (entries_within a.entries.now && eqb (length a.label.now) 32) _ (rw (ne_eqb (length a.label.now) 32 c.if-label-ne32.true) (and-false (entries_within a.entries.now))))
 
--- src/entry.rt:50:5
 pub put-requires : goal.put-requires
 put-requires c = let w = fits _ (within (goal.at.put-requires c).Else-not-entries_within) in omega (arith, w.whole, w.few, c.row-row.type_inv)
 
--- src/entry.rt:51:15
 pub slice_bounds-row-end : goal.slice_bounds-row-end
 slice_bounds-row-end c = let w = fits _ (within (goal.at.slice_bounds-row-end c).Else-not-entries_within) in omega (arith, w.whole, w.few, c.row-row.type_inv, c.put.auto.dst)
 
@@ -44,15 +40,12 @@ slice_bounds-row-end c = let w = fits _ (within (goal.at.slice_bounds-row-end c)
 there : (c : After-row-3-1) → take (length c.args.entries.now) c.put.new.dst ≡ c.args.entries.now
 there c = ap (take (length c.args.entries.now)) c.put.ensures ∙ copied c.row-row.result c.args.entries.now
 
--- src/entry.rt:51:15
 pub slice_bounds-path_over-end : goal.slice_bounds-path_over-end
 slice_bounds-path_over-end c = sym (ap length (there c))
 
--- src/entry.rt:51:5
 pub path_over-requires : goal.path_over-requires
 path_over-requires c = let w = fits _ (within (goal.at.path_over-requires c).Else-not-entries_within) in (ap length (there (goal.at.path_over-requires c).After-row-3-1) ∙ w.whole, w.few, c.if-label-ne32.false)
 
--- src/entry.rt:39:1
 pub returns : goal.returns
 unfolding tree_path path_over
 returns c =

@@ -18,7 +18,6 @@ use Rattle.level.proofs.Row.{copied, fits}
 use Rattle.level.proofs.entry.tree_root.Goals as goal
 use Rattle.level.proofs.entry.tree_root.Goals.{After-row-3-1, After-struct_known-1, Else-not-entries_within, Else-not-found}
 
--- src/entry.rt:29:9
 pub returns-then-not-entries_within : goal.returns-then-not-entries_within
 unfolding tree_root
 returns-then-not-entries_within c =
@@ -27,11 +26,9 @@ returns-then-not-entries_within c =
 within : (c : Else-not-entries_within) → entries_within c.args.entries.now ≡ true
 within c = sym c.entries_within.ensures ∙ c.if-not-entries_within.false
 
--- src/entry.rt:33:5
 pub put-requires : goal.put-requires
 put-requires c = let w = fits _ (within (goal.at.put-requires c).Else-not-entries_within) in omega (arith, w.whole, w.few, c.row-row.type_inv)
 
--- src/entry.rt:34:25
 pub slice_bounds-row-end : goal.slice_bounds-row-end
 slice_bounds-row-end c = let w = fits _ (within (goal.at.slice_bounds-row-end c).Else-not-entries_within) in omega (arith, w.whole, w.few, c.row-row.type_inv, c.put.auto.dst)
 
@@ -39,11 +36,9 @@ slice_bounds-row-end c = let w = fits _ (within (goal.at.slice_bounds-row-end c)
 there : (c : After-row-3-1) → take (length c.args.entries.now) c.put.new.dst ≡ c.args.entries.now
 there c = ap (take (length c.args.entries.now)) c.put.ensures ∙ copied c.row-row.result c.args.entries.now
 
--- src/entry.rt:34:25
 pub slice_bounds-root_of-end : goal.slice_bounds-root_of-end
 slice_bounds-root_of-end c = sym (ap length (there c))
 
--- src/entry.rt:34:9
 pub root_of-found-requires : goal.root_of-found-requires
 root_of-found-requires c = let w = fits _ (within (goal.at.root_of-found-requires c).Else-not-entries_within) in (ap length (there c) ∙ w.whole, w.few)
 
@@ -59,13 +54,11 @@ digest c = (found (goal.at.Else-not-found c).After-struct_known-1).root (not-fal
 distinctly : (c : Else-not-found) → distinct (leaves_of c.args.entries.now) ≡ true
 distinctly c = sym (found (goal.at.Else-not-found c).After-struct_known-1).is ∙ not-false c.root_of-found.result.clear c.if-not-found.false
 
--- src/entry.rt:36:9
 pub returns-then-not-found : goal.returns-then-not-found
 unfolding tree_root
 returns-then-not-found c =
     sym (clash c.args.out.now _ _ _ (within (goal.at.returns-then-not-found c).Else-not-entries_within) (sym (found (goal.at.returns-then-not-found c).After-struct_known-1).is ∙ not-true c.root_of-found.result.clear c.if-not-found.true))
 
--- src/entry.rt:39:9
 pub returns-then-out-lt32 : goal.returns-then-out-lt32
 unfolding tree_root
 returns-then-out-lt32 c =
@@ -73,11 +66,9 @@ returns-then-out-lt32 c =
     let size = (digest-wide (node_string (top (root (leaves_of entries))))).size in
     sym (no_room c.args.out.now _ _ _ (within (goal.at.returns-then-out-lt32 c).Else-not-entries_within) (distinctly (goal.at.returns-then-out-lt32 c).Else-not-found) (omega (arith, size, c.if-out-lt32.true)))
 
--- src/entry.rt:42:5
 pub put-requires-2 : goal.put-requires-2
 put-requires-2 c = let h = c.if-out-lt32.false in omega (arith, h, ap length (digest (goal.at.put-requires-2 c).Else-not-found), (digest-wide (node_string (top (root (leaves_of c.args.entries.now))))).size)
 
--- src/entry.rt:25:1
 pub returns : goal.returns
 unfolding tree_root
 returns c =

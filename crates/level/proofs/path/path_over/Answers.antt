@@ -20,7 +20,6 @@ use Rattle.level.proofs.Over.{over-clash, over-there, over-full, over-written}
 use Rattle.level.proofs.path.path_over.Goals as goal
 use Rattle.level.proofs.path.path_over.Goals.{After-is_in_the_way, After-path_length-length, After-slots-slots, After-store-sides, Else-is_in_the_way, Else-not-arrange}
 
--- src/path.rt:37:9
 pub returns-then-not-arrange : goal.returns-then-not-arrange
 returns-then-not-arrange c =
     let a = c.args in
@@ -37,7 +36,6 @@ apart c = sym c.arrange.ensures.clear ∙ alone c
 ordered : (c : Else-not-arrange) → Sorted c.args.n c.arrange.new.s
 ordered c = record { size = c.arrange.auto.s ∙ c.requires.0; rises = c.arrange.ensures.order (alone c) }
 
--- src/path.rt:39:8
 pub is_in_the_way-requires : goal.is_in_the_way-requires
 is_in_the_way-requires c = (ordered (goal.at.is_in_the_way-requires c).Else-not-arrange, c.requires.2)
 
@@ -47,13 +45,11 @@ way-is c =
     let a = c.args in
     c.is_in_the_way.ensures ∙ ap (λ b. a.absent && b) (sym (c.arrange.ensures.labels (bits_of a.label.now)))
 
--- src/path.rt:40:9
 pub returns-then-is_in_the_way : goal.returns-then-is_in_the_way
 returns-then-is_in_the_way c =
     let a = c.args in
     sym (over-there (leaves_in a.n a.row.now) (bits_of a.label.now) a.absent a.out.now (apart (goal.at.returns-then-is_in_the_way c).Else-not-arrange) (sym (way-is (goal.at.returns-then-is_in_the_way c).After-is_in_the_way) ∙ c.if-is_in_the_way.true))
 
--- src/path.rt:42:9
 pub path_length-length-requires : goal.path_length-length-requires
 path_length-length-requires c = (ordered (goal.at.path_length-length-requires c).Else-not-arrange, c.requires.2)
 
@@ -70,7 +66,6 @@ size_is c = c.path_length-length.ensures ∙ ap length (same-path (goal.at.After
 free : (c : Else-is_in_the_way) → let a = c.args in (a.absent && holds (bits_of a.label.now) (leaves_in a.n a.row.now)) ≡ false
 free c = sym (way-is (goal.at.Else-is_in_the_way c).After-is_in_the_way) ∙ c.if-is_in_the_way.false
 
--- src/path.rt:44:9
 pub returns-then-out-length : goal.returns-then-out-length
 returns-then-out-length c =
     let a = c.args in
@@ -79,11 +74,9 @@ returns-then-out-length c =
 slots-fit : (c : After-slots-slots) → length (take (c.args.n * 64) c.slots-slots.result) ≡ c.args.n * 64
 slots-fit c = length-take-le (c.args.n * 64) c.slots-slots.result (omega (arith, c.requires.1, c.slots-slots.type_inv))
 
--- src/path.rt:48:31
 pub slice_bounds-store-end : goal.slice_bounds-store-end
 slice_bounds-store-end c = sym (slots-fit (goal.at.slice_bounds-store-end c).After-slots-slots)
 
--- src/path.rt:48:9
 pub store-sides-requires : goal.store-sides-requires
 store-sides-requires c = (ordered (goal.at.store-sides-requires c).Else-not-arrange, slots-fit (goal.at.store-sides-requires c).After-slots-slots)
 
@@ -94,21 +87,17 @@ stored-size c = c.store-sides.auto.slots ∙ slots-fit (goal.at.After-store-side
 stored-are : (c : After-store-sides) → let m = c.args.n * 64 in take m (c.store-sides.new.slots ++ drop m c.slots-slots.result) ≡ c.store-sides.new.slots
 stored-are c = take_at c.store-sides.new.slots _ _ (stored-size c)
 
--- src/path.rt:49:24
 pub slice_bounds-slots-end-2 : goal.slice_bounds-slots-end-2
 slice_bounds-slots-end-2 c = let m = c.args.n * 64 in omega (arith, stored-size (goal.at.slice_bounds-slots-end-2 c).After-store-sides, length-append c.store-sides.new.slots (drop m c.slots-slots.result))
 
--- src/path.rt:49:24
 pub slice_bounds-write_path-end : goal.slice_bounds-write_path-end
 slice_bounds-write_path-end c = sym (ap length (stored-are (goal.at.slice_bounds-write_path-end c).After-store-sides) ∙ stored-size (goal.at.slice_bounds-write_path-end c).After-store-sides)
 
--- src/path.rt:49:5
 pub write_path-requires : goal.write_path-requires
 write_path-requires c =
     let h = c.if-out-length.false in
     (ordered (goal.at.write_path-requires c).Else-not-arrange, rw (stored-are (goal.at.write_path-requires c).After-store-sides) c.store-sides.ensures.stored, c.requires.2, omega (arith, c.path_length-length.ensures, h))
 
--- src/path.rt:32:1
 pub returns : goal.returns
 returns c =
     let a = c.args in

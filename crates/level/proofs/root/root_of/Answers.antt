@@ -10,7 +10,6 @@ use Rattle.tree.proofs.Slots.{stored-root}
 use Rattle.level.proofs.root.root_of.Goals as goal
 use Rattle.level.proofs.root.root_of.Goals.{Else-not-arrange}
 
--- src/root.rt:22:9
 pub returns-then-not-arrange : goal.returns-then-not-arrange
 returns-then-not-arrange c =
     let found = c.arrange in
@@ -23,15 +22,12 @@ alone c = not-false c.arrange.result c.if-not-arrange.false-raw
 ordered : (c : Else-not-arrange) → Sorted c.args.n c.arrange.new.s
 ordered c = record { size = c.arrange.auto.s ∙ c.requires.0; rises = c.arrange.ensures.order (alone c) }
 
--- src/root.rt:29:31
 pub slice_bounds-store-end : goal.slice_bounds-store-end
 slice_bounds-store-end c = sym (length-take-le _ c.slots-slots.result (omega (arith, c.requires.1, c.slots-slots.type_inv)))
 
--- src/root.rt:29:9
 pub store-sides-requires : goal.store-sides-requires
 store-sides-requires c = (ordered (goal.at.store-sides-requires c).Else-not-arrange, length-take-le _ c.slots-slots.result (omega (arith, c.requires.1, c.slots-slots.type_inv)))
 
--- src/root.rt:17:1
 pub returns : goal.returns
 returns c =
     let found = c.arrange in

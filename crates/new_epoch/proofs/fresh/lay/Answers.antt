@@ -8,15 +8,12 @@ use Rattle.paper.specs.Bytes.{be, pasted}
 use Rattle.new_epoch.proofs.Made.{laid}
 use Rattle.new_epoch.proofs.fresh.lay.Goals as goal
 
--- src/fresh.rt:19:20
 pub slice_bounds-put-end : goal.slice_bounds-put-end
 slice_bounds-put-end c = sym (length-take-le 65 c.args.update.now (omega (arith, c.requires.0)))
 
--- src/fresh.rt:19:5
 pub put-requires : goal.put-requires
 put-requires c = omega (arith, length-take-le 65 c.args.update.now (omega (arith, c.requires.0)), c.requires.1)
 
--- src/fresh.rt:15:1
 pub returns : goal.returns
 returns c =
     let o = c.args.fresh.now in

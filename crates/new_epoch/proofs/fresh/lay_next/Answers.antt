@@ -22,14 +22,12 @@ versioned c =
     let a = c.args in
     ap suc (c.last_version-last.ensures ∙ ap (λ name. last_version (own_records plain name (records_in a.count a.records.now))) c.name_in.ensures.bytes)
 
--- src/fresh.rt:46:9
 pub returns-then-last-ge1023 : goal.returns-then-last-ge1023
 returns-then-last-ge1023 c =
     let a = c.args in
     let v = versioned (goal.at.returns-then-last-ge1023 c).After-last_version-last in
     record { is = sym (lt-leb (made a.records.now a.count a.epoch a.batch.now a.i).version version_most (omega (arith, v, c.if-last-ge1023.true))); bytes = λ e. absurd (false≢true e); same = λ _. refl }
 
--- src/fresh.rt:31:1
 pub returns : goal.returns
 returns c =
     let a = c.args in

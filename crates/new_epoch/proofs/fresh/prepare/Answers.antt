@@ -15,7 +15,6 @@ use Rattle.new_epoch.specs.Prepared.{new_records}
 use Rattle.new_epoch.proofs.Prepared.{Begun, begun-none, begun-front, begun_more, begun-stop, begun-laid, while-all}
 use Rattle.new_epoch.proofs.fresh.prepare.Goals as goal
 
--- src/fresh.rt:66:5
 pub loop-i-init : goal.loop-i-init
 loop-i-init c = let a = c.args in (omega arith, refl, begun-none a.records.now a.count a.epoch a.batch.now a.fresh.now)
 
@@ -23,7 +22,6 @@ loop-i-init c = let a = c.args in (omega arith, refl, begun-none a.records.now a
 reached : (n i k : ℕ) → i < n → k ≡ n * 162 → suc i * 162 ≤ k
 reached n i k h e = omega arith
 
--- src/fresh.rt:67:13
 pub lay_next-requires : goal.lay_next-requires
 lay_next-requires c =
     let at = c.loop-i in
@@ -32,11 +30,9 @@ lay_next-requires c =
     let w = bytewise c.args.batch.now c.type_inv.batch in
     (c.requires.0, formed-lies c.args.batch.now at.i w reach (c.requires.0.formed at.i reach), omega (arith, h, c.requires.2, at.invariant.1))
 
--- src/fresh.rt:68:13
 pub shape_of-fresh-then-not-lay_next : goal.shape_of-fresh-then-not-lay_next
 shape_of-fresh-then-not-lay_next c = c.lay_next.auto.fresh ∙ c.loop-i.invariant.1
 
--- src/fresh.rt:68:13
 pub returns-then-not-lay_next : goal.returns-then-not-lay_next
 returns-then-not-lay_next c =
     let a = c.args in
@@ -51,7 +47,6 @@ returns-then-not-lay_next c =
       laid = laid.ensures.same r ∙ at.invariant.2.laid ∙ ap (λ l. pasted a.fresh.now 0 (times_bytes record_field.bytes l)) (sym (begun-laid a.records.now a.count a.epoch a.batch.now a.n at.i h e at.invariant.2.versions));
     }
 
--- src/fresh.rt:66:5
 pub loop-i-preserved : goal.loop-i-preserved
 loop-i-preserved c =
     let a = c.args in
@@ -66,11 +61,9 @@ loop-i-preserved c =
       rw (add-one at.i) (begun_more a.records.now a.count a.epoch a.batch.now w (omega (arith, c.ranges.epoch)) at.i reach (c.requires.0.formed at.i reach) (sym laid.ensures.is ∙ e) a.fresh.now at.fresh _ at.invariant.2 (laid.ensures.bytes e)),
     )
 
--- src/fresh.rt:53:1
 pub shape_of-fresh : goal.shape_of-fresh
 shape_of-fresh c = c.loop-i.invariant.1
 
--- src/fresh.rt:53:1
 pub returns : goal.returns
 returns c =
     let a = c.args in

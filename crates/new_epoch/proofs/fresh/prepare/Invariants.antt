@@ -1,4 +1,3 @@
--- `new_epoch::fresh::prepare`: the records of the updates passed stand at the start.
 use mathlib.Core.Path.{◌≡◌}
 use Prim.Native.Nat.{◌-◌, ◌≤◌}
 use lib.ListN.{length}

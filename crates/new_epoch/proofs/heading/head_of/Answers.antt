@@ -22,7 +22,6 @@ records_here c = let a = c.args in records_in a.count a.records.now ++ records_i
 whole : (c : After-plant-all) → Roots (all_at plain (suc c.args.epoch) (records_here c)) c.plant-all.result
 whole c = rw (add-one c.args.epoch) at c.plant-all.ensures
 
--- src/heading.rt:67:9
 pub returns-then-not-all : goal.returns-then-not-all
 returns-then-not-all c =
     let e = sym (whole (goal.at.returns-then-not-all c).After-plant-all).is ∙ not-true c.plant-all.result.clear c.if-not-all.true in
@@ -32,13 +31,11 @@ returns-then-not-all c =
 replaced : (c : After-plant-old) → Roots (old_at plain (suc c.args.epoch) (records_here (goal.at.After-plant-old c).After-plant-all)) c.plant-old.result
 replaced c = rw (add-one c.args.epoch) at c.plant-old.ensures
 
--- src/heading.rt:71:9
 pub returns-then-not-old : goal.returns-then-not-old
 returns-then-not-old c =
     let e = sym (replaced (goal.at.returns-then-not-old c).After-plant-old).is ∙ not-true c.plant-old.result.clear c.if-not-old.true in
     rw c.refused-then-not-old.ensures (record { clash = λ _. (refl, rw e (and-false (distinct (all_at plain (suc c.args.epoch) (records_here (goal.at.returns-then-not-old c).After-plant-all))))); clear = λ q. absurd (omega (arith, q)) })
 
--- src/heading.rt:61:1
 pub returns : goal.returns
 unfolding head_at
 returns c =

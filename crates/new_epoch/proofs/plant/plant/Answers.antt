@@ -21,7 +21,6 @@ had c =
     let a = c.args in
     omega (arith, c.gather-had.ensures.number, by-few a.old a.epoch a.records.now a.count)
 
--- src/plant.rt:23:9
 pub gather-m-requires : goal.gather-m-requires
 gather-m-requires c =
     record { stand = c.requires.new; fits = omega (arith, c.requires.few, had c, c.gather-had.auto.row, c.row-row.type_inv) }
@@ -40,23 +39,18 @@ few c =
 room : (c : After-row-4-1) → c.gather-m.result * 68 ≤ length c.gather-m.new.row
 room c = omega (arith, few c, c.gather-m.auto.row, c.gather-had.auto.row, c.row-row.type_inv)
 
--- src/plant.rt:24:16
 pub overflow_mul-size : goal.overflow_mul-size
 overflow_mul-size c = omega (arith, few c)
 
--- src/plant.rt:25:13
 pub slice_bounds-row-end : goal.slice_bounds-row-end
 slice_bounds-row-end c = room c
 
--- src/plant.rt:25:13
 pub slice_bounds-root_of-end : goal.slice_bounds-root_of-end
 slice_bounds-root_of-end c = sym (length-take-le _ _ (room (goal.at.slice_bounds-root_of-end c).After-row-4-1))
 
--- src/plant.rt:25:5
 pub root_of-requires : goal.root_of-requires
 root_of-requires c = (length-take-le _ _ (room (goal.at.root_of-requires c).After-row-4-1), few (goal.at.root_of-requires c).After-row-4-1)
 
--- src/plant.rt:17:1
 pub returns : goal.returns
 returns c =
     let m = c.gather-m.result in

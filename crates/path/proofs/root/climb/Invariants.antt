@@ -1,4 +1,3 @@
--- `path::root::climb`: `below` is the digest over the steps from i on.
 use mathlib.Core.Path.{◌≡◌}
 use Prim.Native.Nat.{◌≤◌}
 use lib.ListN.{drop}

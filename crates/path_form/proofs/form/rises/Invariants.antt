@@ -1,4 +1,3 @@
--- `path_form::form::rises`: the lengths passed were in their ranges, so the rest decides.
 use mathlib.Core.Path.{◌≡◌}
 use Prim.Native.Nat.{◌+◌, ◌-◌, ◌*◌, ◌≤◌}
 use lib.ListN.{length, drop}

@@ -12,13 +12,11 @@ few c =
     let a = c.args in
     subst (λ n. n ≤ 8805) (sym c.path_length-size.ensures) (path-most a.tree.leaves a.row.now a.label.now c.requires.0 (bytewise a.row.now c.type_inv.row) c.requires.1)
 
--- src/sizes.rt:26:9
 pub returns-then-there : goal.returns-then-there
 returns-then-there c =
     let b : c.args.there ≡ true = c.if-there.true in
     record { clear = rw b refl; size = c.path_length-size.ensures; most = few (goal.at.returns-then-there c).After-path_length-size }
 
--- src/sizes.rt:20:1
 pub returns : goal.returns
 returns c =
     record { clear = rw c.if-there.false (ap not c.is_there.ensures); size = c.path_length-size.ensures; most = few (goal.at.returns c).After-path_length-size }

@@ -7,7 +7,6 @@ use Rattle.paths.specs.Paths.{leaves_for}
 use Rattle.paths.proofs.Asked.{measured-in}
 use Rattle.paths.proofs.sizes.measure_path.Goals as goal
 
--- src/sizes.rt:32:1
 pub returns-in-InAll : goal.returns-in-InAll
 returns-in-InAll c =
     let a = c.args in
@@ -15,7 +14,6 @@ returns-in-InAll c =
     let O = leaves_in a.o.leaves a.old.now in
     measured-in a.name.now A O a.asked c.label_of-label.result _ c.label_of-label.ensures (sym (ap (λ (x : Place). leaves_for a.name.now A O (place_of x)) c.in-InAll.is)) c.measure_in.result c.measure_in.ensures
 
--- src/sizes.rt:32:1
 pub returns-in-InOld : goal.returns-in-InOld
 returns-in-InOld c =
     let a = c.args in
@@ -23,7 +21,6 @@ returns-in-InOld c =
     let O = leaves_in a.o.leaves a.old.now in
     measured-in a.name.now A O a.asked c.label_of-label.result _ c.label_of-label.ensures (sym (ap (λ (x : Place). leaves_for a.name.now A O (place_of x)) c.in-InOld.is)) c.measure_in-in-InOld.result c.measure_in-in-InOld.ensures
 
--- src/sizes.rt:32:1
 pub returns-in-AsMarker : goal.returns-in-AsMarker
 returns-in-AsMarker c =
     let a = c.args in

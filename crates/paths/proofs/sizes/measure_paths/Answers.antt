@@ -11,7 +11,6 @@ use Rattle.paths.specs.Paths.{asked_of, wanted, free_for, path_bytes, Measured}
 use Rattle.paths.proofs.Asked.{wanted-back, bytes-none, free-none, sum_more}
 use Rattle.paths.proofs.sizes.measure_paths.Goals as goal
 
--- src/sizes.rt:80:5
 pub loop-i-init : goal.loop-i-init
 loop-i-init c =
     let a = c.args in
@@ -19,16 +18,13 @@ loop-i-init c =
     let O = leaves_in a.o.leaves a.old.now in
     (omega arith, omega arith, sym (free-none a.name.now A O (asked_of a.plan)), sym (ap length (bytes-none a.name.now A O (asked_of a.plan))))
 
--- src/sizes.rt:81:27
 pub measure_path-requires : goal.measure_path-requires
 measure_path-requires c = c.requires.0
 
--- src/sizes.rt:81:9
 pub joined-sum-requires : goal.joined-sum-requires
 joined-sum-requires c =
     (omega (arith, c.loop-i.invariant.1, c.loop-i-test.true, c.paths_of-i-end.ensures, c.requires.1), c.measure_path.ensures.most)
 
--- src/sizes.rt:80:5
 pub loop-i-preserved : goal.loop-i-preserved
 loop-i-preserved c =
     let a = c.args in
@@ -42,7 +38,6 @@ loop-i-preserved c =
     let more = sum_more a.name.now A O (asked_of a.plan) i d (omega (arith, h, c.paths_of-i-end.ensures)) c.loop-i.sum c.measure_path.result c.joined-sum.result c.loop-i.invariant.2 c.loop-i.invariant.3 one c.joined-sum.ensures in
     (omega (arith, h), omega (arith, c.loop-i.invariant.1, c.joined-sum.ensures.size, one.most), rw (add-one i) more.0, rw (add-one i) more.1)
 
--- src/sizes.rt:65:1
 pub returns : goal.returns
 returns c =
     let a = c.args in

@@ -1,4 +1,3 @@
--- `paths::sizes::measure_paths`: those passed are measured.
 use mathlib.Core.Path.{◌≡◌}
 use Prim.Native.Nat.{◌-◌, ◌*◌, ◌≤◌}
 use lib.ListN.{length, take}

@@ -13,7 +13,6 @@ use Rattle.paths.proofs.write.write_one.Goals.{After-label_of-label}
 long : (c : After-label_of-label) → length c.label_of-label.result ≡ 32
 long c = ap length c.label_of-label.ensures ∙ (digest-wide _).size
 
--- src/write.rt:36:28
 pub write_path-requires : goal.write_path-requires
 write_path-requires c =
     let a = c.args in
@@ -25,7 +24,6 @@ write_path-requires c =
       room_in a.name.now A O a.asked c.label_of-label.result _ c.label_of-label.ensures (sym (ap (λ (x : Place). leaves_for a.name.now A O (place_of x)) c.in-InAll.is)) a.out.now a.at c.requires.1,
     )
 
--- src/write.rt:37:28
 pub write_path-requires-in-InOld : goal.write_path-requires-in-InOld
 write_path-requires-in-InOld c =
     let a = c.args in
@@ -37,7 +35,6 @@ write_path-requires-in-InOld c =
       room_in a.name.now A O a.asked c.label_of-label.result _ c.label_of-label.ensures (sym (ap (λ (x : Place). leaves_for a.name.now A O (place_of x)) c.in-InOld.is)) a.out.now a.at c.requires.1,
     )
 
--- src/write.rt:38:31
 pub write_path-requires-in-AsMarker : goal.write_path-requires-in-AsMarker
 write_path-requires-in-AsMarker c =
     let a = c.args in
@@ -49,7 +46,6 @@ write_path-requires-in-AsMarker c =
       room_in a.name.now A O a.asked c.label_of-label.result _ c.label_of-label.ensures (sym (ap (λ (x : Place). leaves_for a.name.now A O (place_of x)) c.in-AsMarker.is)) a.out.now a.at c.requires.1,
     )
 
--- src/write.rt:18:1
 pub returns-in-InAll : goal.returns-in-InAll
 returns-in-InAll c =
     let a = c.args in
@@ -57,7 +53,6 @@ returns-in-InAll c =
     let O = leaves_in a.o.leaves a.old.now in
     wrote-in a.name.now A O a.asked c.label_of-label.result _ c.label_of-label.ensures (sym (ap (λ (x : Place). leaves_for a.name.now A O (place_of x)) c.in-InAll.is)) _ _ _ _ c.write_path.ensures
 
--- src/write.rt:18:1
 pub returns-in-InOld : goal.returns-in-InOld
 returns-in-InOld c =
     let a = c.args in
@@ -65,7 +60,6 @@ returns-in-InOld c =
     let O = leaves_in a.o.leaves a.old.now in
     wrote-in a.name.now A O a.asked c.label_of-label.result _ c.label_of-label.ensures (sym (ap (λ (x : Place). leaves_for a.name.now A O (place_of x)) c.in-InOld.is)) _ _ _ _ c.write_path-in-InOld.ensures
 
--- src/write.rt:18:1
 pub returns-in-AsMarker : goal.returns-in-AsMarker
 returns-in-AsMarker c =
     let a = c.args in

@@ -13,7 +13,6 @@ use Rattle.paths.proofs.Asked.{wanted-back, wrote_none, bytes-room, wrote-more}
 use Rattle.paths.proofs.write.write_paths.Goals as goal
 use Rattle.paths.proofs.write.write_paths.Goals.{After-asked_of}
 
--- src/write.rt:59:5
 pub loop-i-init : goal.loop-i-init
 loop-i-init c =
     let a = c.args in
@@ -23,7 +22,6 @@ loop-i-init c =
 next-asked : (c : After-asked_of) → wanted c.asked_of.result ≡ get_or (asked_of c.args.plan) c.loop-i.i (P.missing (P.in_all 0))
 next-asked c = ap wanted c.asked_of.ensures ∙ wanted-back (get_or (asked_of c.args.plan) c.loop-i.i (P.missing (P.in_all 0)))
 
--- src/write.rt:60:9
 pub write_one-next-requires : goal.write_one-next-requires
 write_one-next-requires c =
     let a = c.args in
@@ -34,7 +32,6 @@ write_one-next-requires c =
     let room = bytes-room a.name.now A O (asked_of a.plan) c.loop-i.i (P.missing (P.in_all 0)) (omega (arith, h, c.paths_of-i-end.ensures)) in
     (c.requires.0, omega (arith, c.requires.1, c.loop-i.invariant.1, c.loop-i.invariant.2.behind, room, e))
 
--- src/write.rt:59:5
 pub loop-i-preserved : goal.loop-i-preserved
 loop-i-preserved c =
     let a = c.args in
@@ -49,11 +46,9 @@ loop-i-preserved c =
       rw (add-one i) (wrote-more a.name.now A O (asked_of a.plan) i d (omega (arith, h, c.paths_of-i-end.ensures)) a.out.now c.loop-i.out _ a.at c.loop-i.next _ (omega (arith, c.requires.1)) c.loop-i.invariant.2 one),
     )
 
--- src/write.rt:43:1
 pub shape_of-out : goal.shape_of-out
 shape_of-out c = c.loop-i.invariant.1
 
--- src/write.rt:43:1
 pub returns : goal.returns
 returns c =
     let a = c.args in

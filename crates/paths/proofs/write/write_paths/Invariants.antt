@@ -1,4 +1,3 @@
--- `paths::write::write_paths`: those passed are written.
 use mathlib.Core.Path.{◌≡◌}
 use Prim.Native.Nat.{◌-◌, ◌≤◌}
 use lib.ListN.{length, take}

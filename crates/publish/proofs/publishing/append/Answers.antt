@@ -3,6 +3,5 @@ use native.Mathlib.Numerals.{add-one}
 use mathlib.Core.Path.{◌∙◌}
 use Rattle.publish.proofs.publishing.append.Goals as goal
 
--- src/publishing.rt:19:1
 pub returns : goal.returns
 returns c = (c.put.ensures, c.put-2.ensures ∙ rw (add-one c.args.state.epoch))

@@ -6,10 +6,8 @@ use Prim.Native.Nat.{◌+◌, ◌*◌}
 use lib.ListN.{length}
 use Rattle.publish.proofs.testing.has_room.Goals as goal
 
--- src/testing.rt:55:9
 pub returns-then-records-count : goal.returns-then-records-count
 returns-then-records-count c = let a = c.args in sym (rw (lt-leb ((a.count + a.n) * 168) (length a.records.now) c.if-records-count.true))
 
--- src/testing.rt:50:1
 pub returns : goal.returns
 returns c = let a = c.args in let h = c.if-records-count.false in sym (rw (le-leb ((a.count + a.n) * 168) (length a.records.now) (omega (arith, h))))

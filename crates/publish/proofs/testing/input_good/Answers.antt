@@ -9,19 +9,16 @@ use Rattle.paper.proofs.Lists.{and_left}
 use Rattle.publish.specs.Weighed.{input_good}
 use Rattle.publish.proofs.testing.input_good.Goals as goal
 
--- src/testing.rt:38:9
 pub returns-then-not-records_within : goal.returns-then-not-records_within
 unfolding input_good
 returns-then-not-records_within c = sym (rw (sym c.records_within.ensures ∙ not-true c.records_within.result c.if-not-records_within.true-raw))
 
--- src/testing.rt:41:9
 pub returns-then-not-heads_within : goal.returns-then-not-heads_within
 unfolding input_good
 returns-then-not-heads_within c =
     let records = sym c.records_within.ensures ∙ not-false c.records_within.result c.if-not-records_within.false-raw in
     sym (rw (records, sym c.heads_within.ensures ∙ not-true c.heads_within.result c.if-not-heads_within.true-raw))
 
--- src/testing.rt:44:9
 pub returns-then-not-batch_within : goal.returns-then-not-batch_within
 unfolding input_good
 returns-then-not-batch_within c =
@@ -29,7 +26,6 @@ returns-then-not-batch_within c =
     let heads = sym c.heads_within.ensures ∙ not-false c.heads_within.result c.if-not-heads_within.false-raw in
     sym (rw (records, heads, sym c.batch_within.ensures ∙ not-true c.batch_within.result c.if-not-batch_within.true-raw))
 
--- src/testing.rt:46:5
 pub in_layout-requires : goal.in_layout-requires
 unfolding batch_within
 in_layout-requires c =
@@ -37,7 +33,6 @@ in_layout-requires c =
     let m = eqb-true (length c.args.batch.now % 162) 0 (and_left _ _ batch) in
     omega (arith, m)
 
--- src/testing.rt:34:1
 pub returns : goal.returns
 unfolding input_good
 returns c =

@@ -14,7 +14,6 @@ use Rattle.publish.proofs.Weighing.{refuses, twice-refuses, room-refuses, versio
 use Rattle.publish.proofs.testing.lay_out.Goals as goal
 use Rattle.publish.proofs.testing.lay_out.Goals.{Else-not-has_room, Else-not-no_name_twice}
 
--- src/testing.rt:66:9
 pub returns-then-not-no_name_twice : goal.returns-then-not-no_name_twice
 returns-then-not-no_name_twice c =
     let e = sym c.no_name_twice.ensures ∙ c.if-not-no_name_twice.true in
@@ -24,7 +23,6 @@ returns-then-not-no_name_twice c =
 alone : (c : Else-not-no_name_twice) → let b = c.args.batch.now in once plain (updates_in (length b / 162) b) ≡ true
 alone c = sym c.no_name_twice.ensures ∙ c.if-not-no_name_twice.false
 
--- src/testing.rt:69:9
 pub returns-then-not-has_room : goal.returns-then-not-has_room
 returns-then-not-has_room c =
     let e = sym c.has_room.ensures ∙ c.if-not-has_room.true in
@@ -34,18 +32,15 @@ returns-then-not-has_room c =
 room : (c : Else-not-has_room) → let a = c.args in (leb ((a.count + length a.batch.now / 162) * 168) (length a.records.now) && leb ((a.epoch + 2) * 32) (length a.heads.now)) ≡ true
 room c = sym c.has_room.ensures ∙ c.if-not-has_room.false
 
--- src/testing.rt:78:9
 pub overflow_add-epoch : goal.overflow_add-epoch
 overflow_add-epoch c = omega (arith, epoch-small c.args.records.now c.args.heads.now c.args.count c.args.epoch c.args.batch.now c.requires.0 (slot c.args.records.now c.args.heads.now c.args.count c.args.epoch c.args.batch.now c.requires.0 c.requires.1 (room c)))
 
--- src/testing.rt:81:9
 pub returns-then-not-prepare : goal.returns-then-not-prepare
 returns-then-not-prepare c =
     let done = c.prepare in
     let e = sym (rw (add-one c.args.epoch) at done.ensures.is) ∙ c.if-not-prepare.true in
     refuses c.args.records.now c.args.heads.now c.args.count c.args.epoch c.args.batch.now 6 _ (λ e. absurd (omega (arith, e))) (version-refuses c.args.records.now c.args.heads.now c.args.count c.args.epoch c.args.batch.now c.requires.0 c.requires.1 (alone (goal.at.returns-then-not-prepare c).Else-not-no_name_twice) e)
 
--- src/testing.rt:51:1
 pub returns : goal.returns
 returns c =
     let done = c.prepare in

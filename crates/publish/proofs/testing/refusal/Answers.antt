@@ -9,7 +9,6 @@ use Rattle.publish.proofs.Weighing.{refuses, input-refuses, good, records-few, t
 use Rattle.publish.proofs.testing.refusal.Goals as goal
 use Rattle.publish.proofs.testing.refusal.Goals.{Else-not-input_good}
 
--- src/testing.rt:99:9
 pub returns-then-not-input_good : goal.returns-then-not-input_good
 returns-then-not-input_good c =
     let e = sym c.input_good.ensures ∙ c.if-not-input_good.true in
@@ -20,17 +19,14 @@ begun : (c : Else-not-input_good) → let a = c.args in Good a.records.now a.hea
 begun c =
     good c.args.records.now c.args.heads.now c.args.count c.args.epoch c.args.batch.now (bytewise c.args.batch.now c.type_inv.batch) (sym c.input_good.ensures ∙ c.if-not-input_good.false)
 
--- src/testing.rt:103:9
 pub in_shape-requires : goal.in_shape-requires
 in_shape-requires c = (search rules, search rules, records-few c.args.records.now c.args.heads.now c.args.count c.args.epoch c.args.batch.now (begun (goal.at.in_shape-requires c).Else-not-input_good))
 
--- src/testing.rt:104:9
 pub returns-then-not-in_shape : goal.returns-then-not-in_shape
 returns-then-not-in_shape c =
     let found = c.in_shape in
     refuses c.args.records.now c.args.heads.now c.args.count c.args.epoch c.args.batch.now 11 _ (λ e. absurd (omega (arith, e))) (table-refuses c.args.records.now c.args.heads.now c.args.count c.args.epoch c.args.batch.now (begun (goal.at.returns-then-not-in_shape c).Else-not-input_good) (sym found.ensures.is ∙ c.if-not-in_shape.true))
 
--- src/testing.rt:106:5
 pub lay_out-requires : goal.lay_out-requires
 lay_out-requires c =
     let found = c.in_shape in

@@ -5,7 +5,6 @@ use Rattle.publish.specs.Weighed.{Laid}
 use Rattle.publish.proofs.weigh.weigh.Goals as goal
 use Rattle.publish.proofs.weigh.weigh.Goals.{Else-number-ne0}
 
--- src/weigh.rt:26:9
 pub returns-then-number-ne0 : goal.returns-then-number-ne0
 returns-then-number-ne0 c =
     let tested = c.refusal-number.ensures in
@@ -15,11 +14,9 @@ returns-then-number-ne0 c =
 told : (c : Else-number-ne0) → let a = c.args in Laid a.records.now a.heads.now (record { count = a.count; epoch = a.epoch }) a.batch.now c.refusal-number.new.fresh
 told c = c.refusal-number.ensures.laid c.if-number-ne0.false
 
--- src/weigh.rt:28:5
 pub head_of-requires : goal.head_of-requires
 head_of-requires c = let t = told (goal.at.head_of-requires c).Else-number-ne0 in (t.plantable, t.slot, omega (arith, t.epochs))
 
--- src/weigh.rt:13:1
 pub returns : goal.returns
 returns c =
     let t = told (goal.at.returns c).Else-number-ne0 in

@@ -1,4 +1,3 @@
--- `runs::leaves::past`: with each turn the place moves on by a path.
 use mathlib.Core.Path.{◌≡◌}
 use Prim.Native.Nat.{◌-◌, ◌≤◌}
 use Rattle.runs.specs.Runs.{place_at}

@@ -1,4 +1,3 @@
--- `runs::runs::absent`: what is left of the row decides.
 use Prim.Native.Nat.{◌-◌}
 use Rattle.runs.specs.Runs.{lack, place_by}
 use Rattle.runs.proofs.Going.{Going}

@@ -1,4 +1,3 @@
--- `runs::runs::markers`: what is left of the row decides, and version 2^j stands behind 2^j - 1 others.
 use Prim.Native.Nat.{◌-◌}
 use Rattle.runs.specs.Runs.{ask_marker}
 use Rattle.runs.proofs.Going.{Going}

@@ -1,4 +1,3 @@
--- `runs::runs::replaced`: what is left of the row decides, and the place is that of the version after the one asked for.
 use mathlib.Core.Path.{◌≡◌}
 use Prim.Native.Nat.{◌-◌}
 use Rattle.runs.specs.Runs.{ask_replaced, place_at}

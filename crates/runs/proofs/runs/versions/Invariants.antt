@@ -1,5 +1,3 @@
--- `runs::runs::versions`: what is left of the row decides; the places are those of the version's key and path, and the lowest
--- epoch is one more than that of the version before.
 use mathlib.Core.Path.{◌≡◌}
 use Prim.Native.Nat.{◌+◌, ◌-◌, ◌≤◌}
 use Rattle.runs.specs.Runs.{ask_version, item_at, place_at, epoch_from}

@@ -1,4 +1,3 @@
--- `sha256::blocks::blocks` meets its contract: the blocks still to come, from the hash value so far, give that of the whole. Assumes nothing.
 use mathlib.Core.Path.{◌≡◌}
 use Prim.Native.Nat.{◌≤◌, ◌-◌}
 use lib.ListN.{length, drop}

@@ -1,4 +1,3 @@
--- `shown::items::items_after`: the place behind the items passed is where the others stand.
 use mathlib.Core.Path.{◌≡◌}
 use Prim.Native.Nat.{◌-◌, ◌≤◌}
 use lib.ListN.{length}

@@ -1,4 +1,3 @@
--- `shown::layout::paths_after`: the place behind the paths passed is where the others stand.
 use mathlib.Core.Path.{◌≡◌}
 use Prim.Native.Nat.{◌-◌, ◌≤◌}
 use lib.ListN.{length}

@@ -1,4 +1,3 @@
--- `subtrees::has_new`: the leaves passed were not new, so the rest decides.
 use mathlib.Core.Path.{◌≡◌}
 use Prim.Native.Nat.{◌-◌, ◌≤◌}
 use lib.ListN.{drop}

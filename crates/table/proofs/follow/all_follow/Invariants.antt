@@ -1,4 +1,3 @@
--- `table::follow::all_follow`: the records passed are in layout, in shape and in the index.
 use Prim.Native.Nat.{◌-◌, ◌≤◌}
 use Rattle.table.specs.Index.{Indexed, Unlinked}
 use Rattle.table.proofs.Shapes.{Passed}

@@ -1,4 +1,3 @@
--- `table::index::bucket`: what is mixed so far and the bytes that are left decide.
 use mathlib.Core.Path.{◌≡◌}
 use Prim.Native.Nat.{◌-◌, ◌≤◌, ◌<◌}
 use lib.ListN.{length, drop}

@@ -1,4 +1,3 @@
--- `table::index::clear`: the elements passed are zero.
 use mathlib.Core.Path.{◌≡◌}
 use Prim.Native.Nat.{ℕ, ◌-◌, ◌≤◌, ◌<◌}
 use lib.ListN.{length, get_or}

@@ -1,4 +1,3 @@
--- `table::index::last_of`: a walk along the name's bucket.
 use Rattle.table.proofs.Walk.{Walked}
 use Rattle.table.proofs.index.last_of.Given as goal
 
