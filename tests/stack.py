@@ -5,7 +5,7 @@ instructions: `python3 tests/stack.py main`, `python3 tests/stack.py -p target/c
 A function's frame is what it pushes, what it subtracts from the stack pointer, and its return address. A large frame is taken page by page,
 in a loop whose end is reckoned in the register r11 first. A function's stack is its frame and the largest stack of a function that it calls.
 A function that calls itself is counted at the depth that its contract bounds: a recursion over the bits of labels at 256, with one call more
-where the last only ends it, that over a number's decimal digits at 10. Run `tools/build driver` first; `objdump` must be on the path.
+where the last only ends it. Run `tools/build driver` first; `objdump` must be on the path.
 """
 import os
 import re
@@ -21,7 +21,6 @@ text = subprocess.run(["objdump", "-d", "--no-show-raw-insn", PROGRAM], capture_
 
 DEPTHS = {
     "audit_root::below": 256,
-    "line::decimal": 10,
     "arrange::sort": 257,
     "tree::below": 256,
     "tree_path::way_below": 256,

@@ -3,8 +3,6 @@
 // for one. What a true answer says follows from the three checkers' contracts alone and the theorem of proofs/, which has any run of steps.
 #![tactic(auto)]
 
-mod numbers;
-
 ghost use Rattle.std.specs.Prelude.{[], ◌∷◌};
 ghost use Rattle.paper.specs.Labelling.{plain};
 ghost use Rattle.arrow.specs.Pointed.{Pointed};
@@ -12,16 +10,12 @@ ghost use Rattle.arrow.specs.Pointed.{Pointed};
 use audit::check_audit;
 use history::check_history;
 use lookup::check_lookup;
-use numbers::{audit_number, history_number, lookup_number};
 
 // "one head where they are equal"
 pub fn arrow_now(head: &[u8], name: &[u8], lookup: &[u8], history: &[u8]) -> bool
     ensures { Pointed plain head.now name.now lookup.now [] history.now result }
 {
-    if lookup_number(check_lookup(head, name, lookup)) != 0 {
-        return false;
-    }
-    history_number(check_history(head, name, history)) == 0
+    check_lookup(head, name, lookup).is_ok() && check_history(head, name, history).is_ok()
 }
 
 // One step on: the lookup at the head before it, the history at the head after it.
@@ -35,11 +29,7 @@ pub fn arrow_after(
 ) -> bool
     ensures { Pointed plain before.now name.now lookup.now (record { head = after.now; proof = step.now } ∷ []) history.now result }
 {
-    if lookup_number(check_lookup(before, name, lookup)) != 0 {
-        return false;
-    }
-    if audit_number(check_audit(before, after, step)) != 0 {
-        return false;
-    }
-    history_number(check_history(after, name, history)) == 0
+    check_lookup(before, name, lookup).is_ok()
+        && check_audit(before, after, step).is_ok()
+        && check_history(after, name, history).is_ok()
 }

@@ -1,18 +1,18 @@
 -- The definition's tests of an audit, in parts: those of the heads, and behind them those of the two lists.
-use Rattle.std.specs.Prelude.{List, ℕ, ◌+◌, length, take, drop}
+use Rattle.std.specs.Prelude.{List, ℕ, Result, Ok, Err, ◌+◌, length, take, drop}
 use Rattle.paper.specs.Numbers.{wide}
 use Rattle.paper.specs.Bytes.{Bytes, number}
 use Rattle.paper.specs.Verdict.{Test, verdict}
-use Rattle.paper.specs.Audit.{Audit, Which, of_all, of_old, list_tests, audit_tests, list_strings}
-use Rattle.paper.specs.declared.AuditAnswer.{AuditAnswer}
-use Rattle.paper.specs.declared.AuditAnswer.TheVariants as A
+use Rattle.paper.specs.Answer.{AuditAnswer, audit_accepted}
+use Rattle.paper.specs.Audit.{Audit, list_tests, audit_tests, list_strings}
+use Rattle.paper.specs.declared.Refusal.{Refusal}
+use Rattle.paper.specs.declared.Which.{Which}
+use Rattle.paper.specs.declared.Which.TheVariants.{OfAll, OfOld}
 use Rattle.audit_form.specs.Places.{records_at}
-use Rattle.audit.specs.declared.Checked.{Checked}
-use Rattle.audit.specs.declared.Checked.TheVariants.{Passed, Refused}
 
--- how many digests the tests took, or the number of the first that fails
-abbrev pub checked : ℕ → List Test → Checked
-checked digests tests = verdict Refused (Passed digests) tests
+-- how many digests the tests took, or the refusal of the first that fails
+abbrev pub checked : ℕ → List Test → Result ℕ Refusal
+checked digests tests = verdict Err (Ok digests) tests
 
 -- "the old head, the new head, the rules joining the heads"
 abbrev pub head_tests : Bytes → Bytes → Audit → List Test
@@ -29,10 +29,10 @@ digests_at s at n = length (list_strings (records_at s at n))
 -- what is left to answer when all before the list of *old*, and all before both lists, took so many digests
 abbrev pub old_answer : Audit → ℕ → AuditAnswer
 old_answer a digests =
-    verdict A.Refused (A.Accepted a.before.epoch a.after.epoch (digests + length (list_strings a.old)))
-    (list_tests of_old a.before.epoch a.after.epoch a.old a.before.old a.after.old)
+    verdict Err (audit_accepted a.before.epoch a.after.epoch (digests + length (list_strings a.old)))
+    (list_tests OfOld a.before.epoch a.after.epoch a.old a.before.old a.after.old)
 
 abbrev pub lists_answer : Audit → ℕ → AuditAnswer
 lists_answer a digests =
-    verdict A.Refused (old_answer a (digests + length (list_strings a.all)))
-    (list_tests of_all a.before.epoch a.after.epoch a.all a.before.all a.after.all)
+    verdict Err (old_answer a (digests + length (list_strings a.all)))
+    (list_tests OfAll a.before.epoch a.after.epoch a.all a.before.all a.after.all)

@@ -8,73 +8,54 @@
 ghost use Rattle.std.specs.Prelude.{◌≡◌, ◌+◌, ◌≤◌, length};
 ghost use Rattle.paper.specs.Audit.{check_audit};
 ghost use Rattle.audit_form.specs.Places.{behind_at, audit_at, Listed, Laid};
-ghost use Rattle.audit_rules.specs.Tree.{which_of};
 ghost use Rattle.audit.specs.Tests.{checked, head_tests, tests_at, digests_at, old_answer, lists_answer};
 
 use audit_form::in_layout;
 use audit_root::root;
 use audit_rules::list_rules;
 use heads::head_at;
-use paper::AuditAnswer;
+use paper::{AcceptedAudit, AuditAnswer, Refusal, Which};
 use ranges::{digest_at, same};
 use words::read32;
 
-// "Numbers that say no".
-const INPUT: u8 = 1;
-
-const FORM: u8 = 2;
-
-const HEAD: u8 = 3;
-
-const ROOT: u8 = 4;
-
-const RULE: u8 = 5;
-
-// What a part of the tests comes to: how many digests it took, or the number of the first test that fails.
-#[derive(Clone, Copy)]
-pub enum Checked {
-    Passed(u32),
-    Refused(u8),
-}
-
 // The old head, the new head, and what joins them: "The new epoch is the old plus one (nothing follows the largest), its
-// previous head is the old head".
-fn check_heads(old_head: &[u8], new_head: &[u8], proof: &[u8]) -> Checked
+// previous head is the old head". How many digests the tests took, or the refusal of the first that fails.
+fn check_heads(old_head: &[u8], new_head: &[u8], proof: &[u8]) -> Result<u32, Refusal>
     requires { 206 ≤ length proof.now }
     ensures { result ≡ checked 2 (head_tests old_head.now new_head.now (audit_at proof.now)) }
 {
     if !same(&head_at(proof, 6), old_head) {
-        return Checked::Refused(HEAD);
+        return Err(Refusal::Head);
     }
     if !same(&head_at(proof, 106), new_head) {
-        return Checked::Refused(HEAD);
+        return Err(Refusal::Head);
     }
     if read32(proof, 106) as u64 != read32(proof, 6) as u64 + 1 {
-        return Checked::Refused(RULE);
+        return Err(Refusal::Rule);
     }
     if !same(&digest_at(proof, 110), old_head) {
-        return Checked::Refused(RULE);
+        return Err(Refusal::Rule);
     }
-    Checked::Passed(2)
+    Ok(2)
 }
 
 // A list of n records: its rules, its old root, its new root. The roots are compared with those of the two heads.
-fn check_list(proof: &[u8], at: usize, n: usize, of_old: bool, roots: usize) -> Checked
+fn check_list(proof: &[u8], at: usize, n: usize, which: Which, roots: usize) -> Result<u32, Refusal>
     requires { (206 ≤ length proof.now) × (roots ≤ 74) × Listed proof.now at n }
-    ensures { result ≡ checked (digests_at proof.now at n) (tests_at proof.now (which_of of_old) at n roots) }
+    ensures { result ≡ checked (digests_at proof.now at n) (tests_at proof.now which at n roots) }
 {
-    if !list_rules(proof, at, n, of_old, read32(proof, 6), read32(proof, 106)) {
-        return Checked::Refused(RULE);
+    if !list_rules(proof, at, n, which, read32(proof, 6), read32(proof, 106)) {
+        return Err(Refusal::Rule);
     }
     let old = root(proof, at, n, false);
     if !same(&old.digest, &digest_at(proof, roots)) {
-        return Checked::Refused(ROOT);
+        return Err(Refusal::Root);
     }
     let new = root(proof, at, n, true);
     if !same(&new.digest, &digest_at(proof, roots + 100)) {
-        return Checked::Refused(ROOT);
+        return Err(Refusal::Root);
     }
-    Checked::Passed(old.count + new.count)
+    Ok(old.count + new.count)
 }
 
 // The list of *old*, at `at`, when all before it has passed and took so many digests: at most 65,544, two for the heads
@@ -84,14 +65,12 @@ fn check_old(proof: &[u8], at: usize, digests: u32) -> AuditAnswer
     ensures { result ≡ old_answer (audit_at proof.now) digests }
 {
     let n = read32(proof, at) as usize;
-    match check_list(proof, at + 4, n, true, 74) {
-        Checked::Refused(number) => AuditAnswer::Refused(number),
-        Checked::Passed(more) => AuditAnswer::Accepted {
-            old_epoch: read32(proof, 6),
-            new_epoch: read32(proof, 106),
-            digests: digests + more,
-        },
-    }
+    let more = check_list(proof, at + 4, n, Which::OfOld, 74)?;
+    Ok(AcceptedAudit {
+        old_epoch: read32(proof, 6),
+        new_epoch: read32(proof, 106),
+        digests: digests + more,
+    })
 }
 
 // Both lists, when the heads have passed and took so many digests.
@@ -100,10 +79,8 @@ fn check_lists(proof: &[u8], digests: u32) -> AuditAnswer
     ensures { result ≡ lists_answer (audit_at proof.now) digests }
 {
     let n = read32(proof, 206) as usize;
-    match check_list(proof, 210, n, false, 42) {
-        Checked::Refused(number) => AuditAnswer::Refused(number),
-        Checked::Passed(more) => check_old(proof, 210 + n * 99, digests + more),
-    }
+    let more = check_list(proof, 210, n, Which::OfAll, 42)?;
+    check_old(proof, 210 + n * 99, digests + more)
 }
 
 // An audit proof against the head that the handset has and the one that it is shown.
@@ -111,16 +88,14 @@ pub fn check_audit(old_head: &[u8], new_head: &[u8], proof: &[u8]) -> AuditAnswe
     ensures { result ≡ check_audit old_head.now new_head.now proof.now }
 {
     if old_head.len() != 32 {
-        return AuditAnswer::Refused(INPUT);
+        return Err(Refusal::Input);
     }
     if new_head.len() != 32 {
-        return AuditAnswer::Refused(INPUT);
+        return Err(Refusal::Input);
     }
     if !in_layout(proof) {
-        return AuditAnswer::Refused(FORM);
+        return Err(Refusal::Form);
     }
-    match check_heads(old_head, new_head, proof) {
-        Checked::Refused(number) => AuditAnswer::Refused(number),
-        Checked::Passed(digests) => check_lists(proof, digests),
-    }
+    let digests = check_heads(old_head, new_head, proof)?;
+    check_lists(proof, digests)
 }

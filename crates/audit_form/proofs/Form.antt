@@ -1,5 +1,5 @@
 -- What an audit's layout reads at the place of records, of a list, of a head, and in the whole proof. Assumes nothing.
-use mathlib.Core.Path.{◌≡◌, refl, sym, ap, ◌∙◌}
+use mathlib.Core.Path.{◌≡◌, refl, sym, ap, ap₂, ◌∙◌}
 use mathlib.Core.Logic.{by_cases}
 use mathlib.Core.Bool.{Bool, true, false, cond, ◌&&◌, and-true, and-false}
 use mathlib.Core.List.{List, [], ◌∷◌, ◌++◌}
@@ -18,11 +18,14 @@ use Rattle.paper.specs.Audit.{AuditRecord, audit_record_field, list_field, Audit
 use Rattle.paper.proofs.Lists.{not-both, and_left, and_right}
 use Rattle.fields.specs.After.{after_of, after_at}
 use Rattle.fields.specs.Head.{head_at}
-use Rattle.fields.specs.declared.After.TheVariants.{At, Nowhere}
+use Rattle.std.specs.Prelude.{Some, None}
 use Rattle.fields.proofs.Flat.{head-flat}
-use Rattle.audit_form.specs.Places.{record_at, records_at, count_at, behind_at, audit_at, Formed, Listed, Laid}
+use Rattle.audit_form.specs.Places.{record_at, records_at, rows_at, count_at, behind_at, audit_at, Formed, Listed, Laid}
 use Rattle.audit_form.proofs.At.{ReadAt, flat-at, fixed-at, within-at, seq-at, led-at, view-at, then-cond, over-cond}
-use Rattle.audit_form.proofs.Record.{in-layout-at, formed, record-at, record-short, record-tells}
+use Rattle.audit_form.proofs.Chunks.{row}
+use Rattle.audit_form.proofs.Record.{in-layout-at, formed, formed-row, record-at, record-short, record-tells}
+use Rattle.std.specs.List.{list_all}
+use Rattle.std.specs.Bool.{then_some}
 
 -- ---- records
 
@@ -63,25 +66,34 @@ all-each s at (suc n) w e (suc i) h =
 -- ---- the walk over records
 
 -- the place behind what was read, and whether nothing follows
-after-cond : {A : Type 0} (s : Bytes) (t : Bool) (x : A) (e : ℕ) → (t ≡ true → e ≤ length s) → after_of (length s) (cond t (got x (drop e s)) bad) ≡ cond t (At e) Nowhere
-after-cond s true x e h = let q : length s - length (drop e s) ≡ e = omega (arith, h refl, length-drop e s) in ap At q
+after-cond : {A : Type 0} (s : Bytes) (t : Bool) (x : A) (e : ℕ) → (t ≡ true → e ≤ length s) → after_of (length s) (cond t (got x (drop e s)) bad) ≡ cond t (Some e) None
+after-cond s true x e h = let q : length s - length (drop e s) ≡ e = omega (arith, h refl, length-drop e s) in ap Some q
 after-cond s false x e h = refl
 
-walked : (s : Bytes) (at n : ℕ) → at ≤ length s → after_at (times n audit_record_field) s at ≡ cond (all_formed s at n) (At (at + n * 99)) Nowhere
+walked : (s : Bytes) (at n : ℕ) → at ≤ length s → after_at (times n audit_record_field) s at ≡ cond (all_formed s at n) (Some (at + n * 99)) None
 walked s at n h = ap (after_of (length s)) (records-at s at n).reads ∙ after-cond s (all_formed s at n) (records_at s at n) (at + n * 99) (all-reach s at n h)
 
--- a record in layout, and the place behind it; one out of layout, and there is none
-record-after : (s : Bytes) (at : ℕ) → after_at audit_record_field s at ≡ cond (in_layout (audit_record_field.read (drop at s))) (At (at + 99)) Nowhere
-record-after s at = ap (after_of (length s)) (record-at s at).reads ∙ rw (in-layout-at (record-at s at)) (after-cond s (formed s at) (record_at s at) (at + 99) (formed-reach s at))
+-- by rows: too few bytes for n of them, or the place behind them where each is in layout
+pub records-short : (s : Bytes) (at n : ℕ) → at ≤ length s → length s < at + n * 99 → after_at (times n audit_record_field) s at ≡ None
+records-short s at n h l = walked s at n h ∙ by (all_formed s at n) refl
+  where
+    by : (b : Bool) → all_formed s at n ≡ b → cond b (Some (at + n * 99)) None ≡ None
+    by true e = absurd (omega (arith, all-reach s at n h e))
+    by false e = refl
 
-pub record-reach : (s : Bytes) (at : ℕ) → in_layout (audit_record_field.read (drop at s)) ≡ true → at + 99 ≤ length s
-record-reach s at e = formed-reach s at (sym (in-layout-at (record-at s at)) ∙ e)
+rows-formed : (s : Bytes) (at n : ℕ) → at + n * 99 ≤ length s → list_all (λ r. in_layout (audit_record_field.read r)) (rows_at s at n) ≡ all_formed s at n
+unfolding rows_at all_formed
+rows-formed s at zero h = refl
+rows-formed s at (suc n) h =
+    ap₂ (λ a b. a && b) (in-layout-at (record-at (row s at) 0) ∙ formed-row s at (omega arith)) (rows-formed s (at + 99) n (omega arith))
 
-pub record-on : (s : Bytes) (at : ℕ) → in_layout (audit_record_field.read (drop at s)) ≡ true → after_at audit_record_field s at ≡ At (at + 99)
-record-on s at e = record-after s at ∙ rw e
-
-pub record-stop : (s : Bytes) (at : ℕ) → in_layout (audit_record_field.read (drop at s)) ≡ false → after_at audit_record_field s at ≡ Nowhere
-record-stop s at e = record-after s at ∙ rw e
+pub records-behind : (s : Bytes) (at n : ℕ) → at + n * 99 ≤ length s
+    → then_some (list_all (λ r. in_layout (audit_record_field.read r)) (rows_at s at n)) (at + n * 99) ≡ after_at (times n audit_record_field) s at
+records-behind s at n h = rw (rows-formed s at n h) (by (all_formed s at n)) ∙ sym (walked s at n (omega arith))
+  where
+    by : (b : Bool) → then_some b (at + n * 99) ≡ cond b (Some (at + n * 99)) None
+    by true = refl
+    by false = refl
 
 -- ---- a list
 
@@ -104,15 +116,15 @@ module _ (s : Bytes) (at : ℕ) where
       let f = and_right (leb (at + 4) (length s)) _ (and_left _ _ e) in
       record { reach = list-reach e; few = leb-true (count_at s at) audit_most (and_right (leb 0 (count_at s at)) _ f); each = all-each s (at + 4) (count_at s at) w a }
 
-  list-after : after_at list_field s at ≡ cond list_test (At (behind_at s at)) Nowhere
+  list-after : after_at list_field s at ≡ cond list_test (Some (behind_at s at)) None
   list-after = ap (after_of (length s)) list_at.reads ∙ after-cond s list_test (records_at s (at + 4) (count_at s at)) (behind_at s at) list-reach
 
   -- too short for a count, too large a count, and the walk over the records
-  pub list-short : length s < at + 4 → after_at list_field s at ≡ Nowhere
+  pub list-short : length s < at + 4 → after_at list_field s at ≡ None
   unfolding list_test
   list-short h = list-after ∙ rw (lt-leb (at + 4) (length s) h)
 
-  pub list-many : audit_most < count_at s at → after_at list_field s at ≡ Nowhere
+  pub list-many : audit_most < count_at s at → after_at list_field s at ≡ None
   unfolding list_test
   list-many h = list-after ∙ rw (lt-leb (count_at s at) audit_most h) (simp and-false)
 
@@ -146,34 +158,34 @@ ended-at (b ∷ s) zero h = sym (eqb-zero-suc (length s))
 ended-at (b ∷ s) (suc e) h = ended-at s e (omega arith) ∙ sym (eqb-suc-suc e (length s))
 
 -- what the place behind a list tells
-no_place : (t : Bool) (e : ℕ) → cond t (At e) Nowhere ≡ Nowhere → t ≡ false
+no_place : (t : Bool) (e : ℕ) → cond t (Some e) None ≡ None → t ≡ false
 no_place true e q = let z : ◌≡◌ {A = ℕ} 0 1 = cc in absurd (omega arith)
 no_place false e q = refl
 
-one_place : (t : Bool) (e f : ℕ) → cond t (At e) Nowhere ≡ At f → (t ≡ true) × (e ≡ f)
+one_place : (t : Bool) (e f : ℕ) → cond t (Some e) None ≡ Some f → (t ≡ true) × (e ≡ f)
 one_place true e f q = (refl, cc)
 one_place false e f q = let z : ◌≡◌ {A = ℕ} 0 1 = cc in absurd (omega arith)
 
 module _ (s : Bytes) (at : ℕ) where
-  no-list : after_at list_field s at ≡ Nowhere → list_test s at ≡ false
+  no-list : after_at list_field s at ≡ None → list_test s at ≡ false
   no-list q = no_place (list_test s at) (behind_at s at) (sym (list-after s at) ∙ q)
 
-  one_list : (e : ℕ) → after_at list_field s at ≡ At e → (list_test s at ≡ true) × (behind_at s at ≡ e)
+  one_list : (e : ℕ) → after_at list_field s at ≡ Some e → (list_test s at ≡ true) × (behind_at s at ≡ e)
   one_list e q = one_place (list_test s at) (behind_at s at) e (sym (list-after s at) ∙ q)
 
   list-whole : in_layout (parse list_field (drop at s)) ≡ (list_test s at && ended (drop (behind_at s at) s))
   list-whole = ap (λ m. in_layout (whole m)) (list_at s at).reads ∙ whole-cond (list_test s at) _ (drop (behind_at s at) s)
 
   -- no list ends the bytes, and a list does
-  pub list-none : after_at list_field s at ≡ Nowhere → in_layout (parse list_field (drop at s)) ≡ false
+  pub list-none : after_at list_field s at ≡ None → in_layout (parse list_field (drop at s)) ≡ false
   list-none q = list-whole ∙ rw (no-list q)
 
-  pub list-end : (e : ℕ) → after_at list_field s at ≡ At e → in_layout (parse list_field (drop at s)) ≡ eqb e (length s)
+  pub list-end : (e : ℕ) → after_at list_field s at ≡ Some e → in_layout (parse list_field (drop at s)) ≡ eqb e (length s)
   list-end e q =
       let (t, b) = one_list e q in
       list-whole ∙ rw t (ended-at s (behind_at s at) (list-reach s at t) ∙ ap (λ n. eqb n (length s)) b)
 
-  pub list-place : (e : ℕ) → after_at list_field s at ≡ At e → e ≤ length s
+  pub list-place : (e : ℕ) → after_at list_field s at ≡ Some e → e ≤ length s
   list-place e q = let (t, b) = one_list e q in rw b at (list-reach s at t)
 
 -- what a list reads as, stands at its place
@@ -222,12 +234,12 @@ module _ (s : Bytes) where
     unfolding audit_test opens_test be
     audit-closed e = audit-whole ∙ rw e
 
-    pub audit-none : after_at list_field s 206 ≡ Nowhere → in_layout (parse audit_field s) ≡ false
+    pub audit-none : after_at list_field s 206 ≡ None → in_layout (parse audit_field s) ≡ false
     unfolding audit_test
     audit-none q = audit-whole ∙ rw (no-list s 206 q) (simp and-false)
 
     pub audit-ends : 206 ≤ length s → same (take 6 s) (0x56 ∷ 0x4B ∷ 0x44 ∷ 0 ∷ 1 ∷ 3 ∷ []) ≡ true
-        → (e : ℕ) → after_at list_field s 206 ≡ At e → in_layout (parse audit_field s) ≡ in_layout (parse list_field (drop e s))
+        → (e : ℕ) → after_at list_field s 206 ≡ Some e → in_layout (parse audit_field s) ≡ in_layout (parse list_field (drop e s))
     unfolding audit_test opens_test be
     audit-ends h o e q =
         let (t, b) = one_list s 206 e q in

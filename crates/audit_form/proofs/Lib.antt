@@ -3,3 +3,4 @@ pub mod At
 pub mod Record
 pub mod Form
 pub mod Places
+pub mod Chunks

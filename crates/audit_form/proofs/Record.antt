@@ -23,6 +23,7 @@ use Rattle.ranges.proofs.Compare.{not_same, zeros-same}
 use Rattle.ranges.proofs.Slices.{length_part}
 use Rattle.fields.proofs.Prefix.{zero_bits}
 use Rattle.audit_form.specs.Places.{label_at, key_at, record_by, record_at, Formed}
+use Rattle.audit_form.proofs.Chunks.{row, field, label, kind}
 use Rattle.audit_form.proofs.At.{ReadAt, block_at, fixed-at, within-at, seq-at, led-at, view-at, such-at}
 
 -- the value matters where the test holds alone, and a value was read where it does
@@ -255,3 +256,60 @@ module _ (s : Bytes) (at : ℕ) where
         most = most;
         packed = packed;
       }
+
+-- ---- a record in its own 99 bytes is in layout where it is in layout at its place
+
+module _ (s : Bytes) (at : ℕ) (h : at + 99 ≤ length s) where
+  row-size : length (row s at) ≡ 99
+  row-size = length_part s at 99 h
+
+  leaf-row : leaf_test (row s at) 0 ≡ leaf_test s at
+  unfolding leaf_test
+  leaf-row =
+      let m = row-size in
+      rw (
+        field s at 1 2 (omega arith),
+        field s at 67 4 (omega arith),
+        field s at 71 28 (omega arith),
+        le-leb 35 (length (row s at)) (omega arith),
+        le-leb 67 (length (row s at)) (omega arith),
+        le-leb 71 (length (row s at)) (omega arith),
+        le-leb (at + 35) (length s) (omega arith),
+        le-leb (at + 67) (length s) (omega arith),
+        le-leb (at + 71) (length s) (omega arith),
+      )
+
+  prefix-row : prefix_test (row s at) 0 ≡ prefix_test s at
+  unfolding prefix_test size_at
+  prefix-row =
+      let m = row-size in
+      rw (
+        field s at 1 2 (omega arith),
+        label s at,
+        le-leb 3 (length (row s at)) (omega arith),
+        le-leb 35 (length (row s at)) (omega arith),
+        le-leb (at + 3) (length s) (omega arith),
+        le-leb (at + 35) (length s) (omega arith),
+      )
+
+  by-row : (k : ℕ) → formed_by (row s at) 0 k ≡ formed_by s at k
+  unfolding formed_by
+  by-row zero = leaf-row
+  by-row (suc zero) =
+      let m = row-size in
+      rw (
+        prefix-row,
+        le-leb 67 (length (row s at)) (omega arith),
+        le-leb 99 (length (row s at)) (omega arith),
+        le-leb (at + 67) (length s) (omega arith),
+        le-leb (at + 99) (length s) h,
+      )
+  by-row (suc (suc zero)) = leaf-row
+  by-row (suc (suc (suc k))) = refl
+
+  pub formed-row : formed (row s at) 0 ≡ formed s at
+  unfolding formed
+  formed-row =
+      let m = row-size in
+      let e : kind_at (row s at) 0 ≡ kind_at s at = kind-byte (row s at) 0 (omega arith) ∙ kind s at ∙ sym (kind-byte s at (omega arith)) in
+      rw (le-leb 1 (length (row s at)) (omega arith), le-leb (at + 1) (length s) (omega arith), e, by-row (kind_at s at))

@@ -1,5 +1,6 @@
 -- What stands at a place of an audit proof's bytes. Where the bytes are in layout, this is what the layout reads (proofs/Form.antt).
-use Rattle.std.specs.Prelude.{◌≡◌, List, [], ◌∷◌, ℕ, zero, suc, ◌+◌, ◌*◌, ◌≤◌, ◌<◌, length, take, drop, get_or}
+use Rattle.std.specs.Prelude.{◌≡◌, List, [], ◌∷◌, map, ℕ, zero, suc, ◌+◌, ◌*◌, ◌≤◌, ◌<◌, length, take, drop, get_or}
+use Rattle.paper.specs.Lists.{All}
 use Rattle.paper.specs.Numbers.{wide, audit_most}
 use Rattle.paper.specs.Bytes.{Bytes, number}
 use Rattle.paper.specs.Bits.{Bits, bits_of, pack}
@@ -26,6 +27,14 @@ record_at s at = record_by (get_or s at 0) s at
 unfoldable pub records_at : Bytes → ℕ → ℕ → List AuditRecord
 records_at s at zero = []
 records_at s at (suc n) = record_at s at ∷ records_at s (at + 99) n
+
+-- the same records, each in its own 99 bytes: n of them, from a place on, and what stands in them
+unfoldable pub rows_at : Bytes → ℕ → ℕ → List Bytes
+rows_at s at zero = []
+rows_at s at (suc n) = take 99 (drop at s) ∷ rows_at s (at + 99) n
+
+abbrev pub records_of : List Bytes → List AuditRecord
+records_of rows = map (λ r. record_at r 0) rows
 
 -- "a count (4) and records": the count of the list at a place, and where the list ends
 unfoldable pub count_at : Bytes → ℕ → ℕ
@@ -56,6 +65,11 @@ pub record Listed (s : Bytes) (at n : ℕ) : Type 0 where
   pub reach : at + n * 99 ≤ length s
   pub few : n ≤ audit_most
   pub each : (i : ℕ) → i < n → Formed s (at + i * 99)
+
+-- the same of records that stand each in its own 99 bytes
+pub record Rows (rows : List Bytes) : Type 0 where
+  pub few : length rows ≤ audit_most
+  pub each : All (λ r. Formed r 0) rows
 
 -- an audit in layout: room for its heads, and two lists
 pub record Laid (s : Bytes) : Type 0 where

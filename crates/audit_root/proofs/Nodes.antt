@@ -1,25 +1,23 @@
 -- The nodes of records, and the trees over them: two sides joined are the tree over both. Assumes nothing.
 use mathlib.Core.Path.{◌≡◌, refl, sym, ap, ap₂, ◌∙◌}
 use mathlib.Core.Logic.{◌⊎◌, inl, inr, ⊎_elim}
-use mathlib.Core.Bool.{Bool, true, false, cond}
+use mathlib.Core.Bool.{Bool, true, false}
 use mathlib.Core.List.{List, [], ◌∷◌, ◌++◌, append-nil, cons≢nil}
 use Prim.Native.Nat.{suc, ◌+◌, ◌*◌, ◌≤◌}
 use native.Mathlib.Omega.{arith}
-use lib.Dec.{eqb}
 use lib.ListN.{length, length-append}
-use borrow.Author.Tests.{ne_eqb}
-use Rattle.fips.specs.Sha256.{sha256}
+use Rattle.std.specs.Prelude.{Option, None, Some}
 use Rattle.paper.specs.Lists.{All}
 use Rattle.paper.specs.Numbers.{wide}
 use Rattle.paper.specs.Bits.{Bits, pack}
-use Rattle.paper.specs.Strings.{Node, nothing_string}
-use Rattle.paper.specs.Tree.{key, Tree, empty, one, fork, nodes, build, root}
+use Rattle.paper.specs.Strings.{Node}
+use Rattle.paper.specs.Tree.{key, Tree, fork, nodes, build, root}
 use Rattle.paper.specs.Audit.{AuditRecord, unchanged, opened, fresh, record_key, olds, news}
 use Rattle.paper.proofs.Tree.{Free, Below, below_none}
 use Rattle.paper.proofs.Order.{Before}
 use Rattle.bit_order.proofs.Order.{Ordered}
 use Rattle.bit_order.proofs.Sides.{Parts, root-parts, build-parts, build-few}
-use Rattle.audit_root.specs.Built.{built, grown, or_nothing, joined, forked, nodes_of, record_node}
+use Rattle.audit_root.specs.Built.{built, grown, hashed, or_nothing, joined, forked, nodes_of, record_node}
 use Rattle.audit_root.specs.declared.Built.{Built}
 
 -- ---- the nodes of records
@@ -72,15 +70,7 @@ nodes-append false (fresh m c e ∷ R) Q = nodes-append false R Q
 
 -- ---- the trees over them
 
-nodes-some : (t : Tree) → 1 ≤ length (nodes t)
-nodes-some empty = omega arith
-nodes-some (one x) = omega arith
-nodes-some (fork p l r) = omega arith
-
-built-count : (t : Tree) → (built t).count ≡ 0 → ⊥
-built-count t e = omega (arith, nodes-some t)
-
-pub grown-few : (S : List Node) → Free S → (grown S).count ≤ 2 * length S
+pub grown-few : (S : List Node) → Free S → hashed (grown S) ≤ 2 * length S
 unfolding grown
 grown-few [] f = omega arith
 grown-few (x ∷ S) f = omega (arith, build-few 256 (x ∷ S) f (λ e. cons≢nil e))
@@ -93,28 +83,18 @@ joined-fork p l r =
 pub fork-grown : (p : Bits) (S T : List Node) → Parts p S T → Below (S ++ T) → grown (S ++ T) ≡ forked (length p) (pack wide p) (grown S) (grown T)
 unfolding grown forked
 fork-grown p [] T h b = refl
-fork-grown p (x ∷ S) [] h b = rw (append-nil S, ne_eqb (built (build 256 (x ∷ S))).count 0 (built-count (build 256 (x ∷ S))))
-fork-grown p (x ∷ S) (y ∷ T) h b =
-    let l = build 256 (x ∷ S) in
-    let r = build 256 (y ∷ T) in
-    rw (build-parts p x S y T h b, ne_eqb (built l).count 0 (built-count l), ne_eqb (built r).count 0 (built-count r)) (sym (joined-fork p l r))
+fork-grown p (x ∷ S) [] h b = rw (append-nil S)
+fork-grown p (x ∷ S) (y ∷ T) h b = rw (build-parts p x S y T h b) (ap Some (sym (joined-fork p (build 256 (x ∷ S)) (build 256 (y ∷ T)))))
 
-pub or-few : (b : Built) → (or_nothing b).count ≤ b.count + 1
+pub or-few : (b : Option Built) → (or_nothing b).count ≤ hashed b + 1
 unfolding or_nothing
-or-few b = by (eqb b.count 0)
-  where
-    by : (t : Bool) → (cond t (record { digest = sha256 nothing_string; count = 1 }) b).count ≤ b.count + 1
-    by true = omega arith
-    by false = omega arith
-
-or_some : (b : Built) → (b.count ≡ 0 → ⊥) → or_nothing b ≡ b
-unfolding or_nothing
-or_some b h = rw (ne_eqb b.count 0 h)
+or-few None = omega arith
+or-few (Some b) = omega arith
 
 side-built : (S : List Node) → or_nothing (grown S) ≡ built (build 256 S)
 unfolding grown or_nothing
 side-built [] = ap built (sym below_none)
-side-built (x ∷ S) = or_some (built (build 256 (x ∷ S))) (built-count (build 256 (x ∷ S)))
+side-built (x ∷ S) = refl
 
 pub root-grown : (S T : List Node) → Parts [] S T → joined 0 (pack wide []) (or_nothing (grown S)) (or_nothing (grown T)) ≡ built (root (S ++ T))
 root-grown S T h =

@@ -1,79 +1,66 @@
 // The roots of an audit's list, old and new, by recursion over ranges of its records, straight over the lent bytes. A
-// range is the place of its first record and their number. It splits at the bit after what its first and last record
-// share, and each part shares more bits than the range did: at most 256 calls stand within one another.
+// range splits at the bit after what its first and last record share, and each part shares more bits than the range did:
+// at most 256 calls stand within one another.
 //
 // "Kinds 0 and 1 build the old root, all records the new.": both recursions run over all records. In the old one a new
-// leaf comes to no node, and where a side has no node the other side is the whole tree.
+// leaf comes to no node, and where a side has no node the other side is the whole tree. `new` says whether new leaves are
+// taken: an enum of two roots would be no plainer.
 #![tactic(auto)]
 
-ghost use Rattle.std.specs.Prelude.{◌≡◌, true, [], ◌+◌, ◌*◌, ◌^◌, ◌≤◌, ◌<◌, length};
+ghost use Rattle.std.specs.Prelude.{◌≡◌, true, ◌∷◌, [], ◌+◌, ◌*◌, ◌^◌, ◌≤◌, ◌<◌, length};
 ghost use Rattle.paper.specs.Tree as T;
 ghost use Rattle.paper.specs.Audit.{in_order};
-ghost use Rattle.audit_form.specs.Places.{record_at, records_at, Formed, Listed};
-ghost use Rattle.audit_root.specs.Built.{built, grown, or_nothing, joined, forked, nodes_of, record_node, lefts_at, Range};
+ghost use Rattle.audit_form.specs.Places.{record_at, records_at, records_of, Formed, Listed};
+ghost use Rattle.audit_root.specs.Built.{built, grown, hashed, or_nothing, joined, forked, nodes_of, record_node, lefts, Range};
 
-use audit_form::label_at;
+use audit_form::{label_at, rows};
 use bits::{first_difference, label_bit, prefix_of};
 use nodes::{inner, leaf, nothing};
 use ranges::digest_at;
 use words::{read16, read32};
 
-// What a tree comes to: the digest of its top node, and how many nodes are hashed for it. No node at all is count 0.
+// What a tree comes to: the digest of its top node, and how many nodes are hashed for it.
 #[derive(Clone, Copy)]
 pub struct Built {
     pub digest: [u8; 32],
     pub count: u32,
 }
 
-// The tree over no records, before the root makes it "nothing".
-fn none() -> Built
-    ensures { result ≡ grown [] }
+// The digest of the node in a record. An unchanged inner node is opened: its prefix is hashed with its digests.
+fn record_digest(row: &[u8; 99]) -> [u8; 32]
+    requires { Formed row.now 0 }
+    ensures { result ≡ T.digest (record_node (record_at row.now 0)) }
 {
-    Built {
-        digest: [0u8; 32],
-        count: 0,
+    let label = digest_at(row, 3);
+    let first = digest_at(row, 35);
+    if row[0] == 1 {
+        let second = digest_at(row, 67);
+        return inner(read16(row, 1), &label, &first, &second);
     }
-}
-
-// The digest of the node in the record at `at`. An unchanged inner node is opened: its prefix is hashed with its digests.
-fn record_digest(s: &[u8], at: usize) -> [u8; 32]
-    requires { Formed s.now at }
-    ensures { result ≡ T.digest (record_node (record_at s.now at)) }
-{
-    let label = digest_at(s, at + 3);
-    let first = digest_at(s, at + 35);
-    if s[at] == 1 {
-        let second = digest_at(s, at + 67);
-        return inner(read16(s, at + 1), &label, &first, &second);
-    }
-    leaf(&label, &first, read32(s, at + 67))
+    leaf(&label, &first, read32(row, 67))
 }
 
 // "one label gives its leaf", and an opened node stands in place of its labels. A new leaf has no part in the old tree.
-fn one(s: &[u8], at: usize, new: bool) -> Built
-    requires { Formed s.now at }
-    ensures { result ≡ grown (nodes_of new (records_at s.now at 1)) }
+fn one(row: &[u8; 99], new: bool) -> Option<Built>
+    requires { Formed row.now 0 }
+    ensures { result ≡ grown (nodes_of new (records_of (row.now ∷ []))) }
 {
-    if s[at] == 2 && !new {
-        return none();
+    if row[0] == 2 && !new {
+        return None;
     }
-    Built {
-        digest: record_digest(s, at),
+    Some(Built {
+        digest: record_digest(row),
         count: 1,
-    }
+    })
 }
 
-// How many of n records, from the first on, go left at bit k.
-fn lefts(s: &[u8], at: usize, n: usize, k: usize) -> usize
-    requires { at + n * 99 ≤ length s.now }
-    ensures { result ≡ lefts_at s.now k at n }
+// How many of the records, from the first on, go left at bit k.
+fn lefts(rows: &[[u8; 99]], k: usize) -> usize
+    ensures { result ≡ lefts k rows.now }
 {
-    for m in 0..n {
-        if label_bit(label_at(s, at + m * 99), k) {
-            return m;
-        }
-    }
-    n
+    rows.iter()
+        .position(|row| label_bit(label_at(row, 0), k))
+        .unwrap_or(rows.len())
 }
 
 // The inner node over two sides.
@@ -88,50 +75,50 @@ fn join(length: u16, prefix: &[u8; 32], left: Built, right: Built) -> Built
 }
 
 // The same, where a side with no node leaves the other as it is.
-fn fork(length: u16, prefix: &[u8; 32], left: Built, right: Built) -> Built
-    requires { left.count + right.count < 2 ^ 31 }
+#[tactic(auto, unfolding(crate::specs::Built::forked))]
+fn fork(length: u16, prefix: &[u8; 32], left: Option<Built>, right: Option<Built>) -> Option<Built>
+    requires { hashed left + hashed right < 2 ^ 31 }
     ensures { result ≡ forked length prefix.now left right }
 {
-    if left.count == 0 {
-        return right;
+    match (left, right) {
+        (Some(left), Some(right)) => Some(join(length, prefix, left, right)),
+        (None, right) => right,
+        (Some(left), None) => Some(left),
     }
-    if right.count == 0 {
-        return left;
-    }
-    join(length, prefix, left, right)
 }
 
 // "more give an inner node whose prefix is their longest common prefix, and the bit after the prefix sends each label
-// left (0) or right (1)." The n records from `at` on share `from` bits, and what is left of 256 falls.
-fn below(s: &[u8], at: usize, n: usize, new: bool, from: usize) -> Built
-    requires { Range s.now at n from }
-    ensures { result ≡ grown (nodes_of new (records_at s.now at n)) }
+// left (0) or right (1)." The records share `from` bits, and what is left of 256 falls.
+fn below(rows: &[[u8; 99]], new: bool, from: usize) -> Option<Built>
+    requires { Range rows.now from }
+    ensures { result ≡ grown (nodes_of new (records_of rows.now)) }
 {
-    if n == 0 {
-        return none();
+    match rows {
+        [] => None,
+        [row] => one(row, new),
+        [first, .., last] => {
+            let label = label_at(first, 0);
+            let k = first_difference(label, label_at(last, 0));
+            let (left, right) = rows.split_at(lefts(rows, k));
+            let left = below(left, new, k + 1);
+            let right = below(right, new, k + 1);
+            fork(k as u16, &prefix_of(label, k), left, right)
+        }
     }
-    if n == 1 {
-        return one(s, at, new);
-    }
-    let label = label_at(s, at);
-    let k = first_difference(label, label_at(s, at + (n - 1) * 99));
-    let m = lefts(s, at, n, k);
-    let left = below(s, at, m, new, k + 1);
-    let right = below(s, at + m * 99, n - m, new, k + 1);
-    fork(k as u16, &prefix_of(label, k), left, right)
 }
 
 // A side of the root, with the digest of nothing where there is no node.
-fn or_nothing(side: Built) -> Built
+#[tactic(auto, unfolding(crate::specs::Built::or_nothing))]
+fn or_nothing(side: Option<Built>) -> Built
     ensures { result ≡ or_nothing side }
 {
-    if side.count == 0 {
-        return Built {
+    match side {
+        Some(built) => built,
+        None => Built {
             digest: nothing(),
             count: 1,
-        };
+        },
     }
-    side
 }
 
 // "The root has prefix length 0 and is always an inner node. It alone may have "nothing" as a child."
@@ -139,8 +126,9 @@ pub fn root(s: &[u8], at: usize, n: usize, new: bool) -> Built
     requires { Listed s.now at n × (in_order (records_at s.now at n) ≡ true) }
     ensures { result ≡ built (T.root (nodes_of new (records_at s.now at n))) }
 {
-    let m = lefts(s, at, n, 0);
-    let left = or_nothing(below(s, at, m, new, 1));
-    let right = or_nothing(below(s, at + m * 99, n - m, new, 1));
+    let rows = rows(s, at, n);
+    let (left, right) = rows.split_at(lefts(rows, 0));
+    let left = or_nothing(below(left, new, 1));
+    let right = or_nothing(below(right, new, 1));
     join(0, &[0u8; 32], left, right)
 }

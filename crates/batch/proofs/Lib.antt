@@ -1,3 +1,4 @@
 -- Laws of batches.
 pub mod Places
 pub mod Form
+pub mod Counted

@@ -1,4 +1,5 @@
-// A batch of updates, each of 162 bytes: "a record without version and epoch".
+// A batch of updates, each of 162 bytes: "a record without version and epoch". It is bytes and a number beside them, as the contracts
+// that docs/ENTRIES names have it.
 #![tactic(auto)]
 
 ghost use Rattle.std.specs.Prelude.{◌≡◌, ℕ, suc, ◌+◌, ◌*◌, ◌≤◌, ◌<◌, length, drop};
@@ -14,7 +15,7 @@ use ranges::same;
 use record::filled_at;
 use record_form::filled;
 
-// The name of update i, as a part of the batch.
+// The name of update i, as a part of the batch; `record::name_at` has a record's, whose size and layout are others.
 pub fn name_in(s: &[u8], i: usize) -> &[u8]
     requires { Lies s.now i }
     ensures { PartAt s.entry (i * 162 + 1) (update_at s.now i).name result }
@@ -42,12 +43,7 @@ pub fn in_layout(s: &[u8], n: usize) -> bool
     requires { length s.now ≡ n * 162 }
     ensures { result ≡ in_layout (parse (times n update_field) s.now) }
 {
-    for i in 0..n {
-        if !in_form(s, i) {
-            return false;
-        }
-    }
-    true
+    (0..n).all(|i| in_form(s, i))
 }
 
 // Whether one of the updates behind update i has its name.
@@ -56,12 +52,7 @@ fn again(s: &[u8], n: usize, i: usize) -> bool
     ensures { result ≡ bears_from s.now n i (suc i) }
 {
     let name = name_in(s, i);
-    for j in i + 1..n {
-        if same(name_in(s, j), name) {
-            return true;
-        }
-    }
-    false
+    (i + 1..n).any(|j| same(name_in(s, j), name))
 }
 
 // "a name twice in a batch": whether none is.
@@ -69,10 +60,5 @@ pub fn no_name_twice(s: &[u8], n: usize) -> bool
     requires { (j : ℕ) → j < n → Lies s.now j }
     ensures { result ≡ once plain (updates_in n s.now) }
 {
-    for i in 0..n {
-        if again(s, n, i) {
-            return false;
-        }
-    }
-    true
+    !(0..n).any(|i| again(s, n, i))
 }

@@ -20,7 +20,7 @@ entry-parts : (s : Bytes) → take 68 s ≡ take 32 s ++ (take 32 (drop 32 s) ++
 entry-parts s = take-add 32 36 s ∙ ap (λ x. take 32 s ++ x) (take-add 32 4 (drop 32 s) ∙ ap (λ x. take 32 (drop 32 s) ++ take 4 x) (drop-drop 32 32 s))
 
 module _ (s t : Bytes) (v : Bytewise s) (w : Bytewise t) (h : 68 ≤ length s) (k : 68 ≤ length t) where
-  entry-one : entry_leaf s ≡ entry_leaf t → take 68 s ≡ take 68 t
+  pub entry-one : entry_leaf s ≡ entry_leaf t → take 68 s ≡ take 68 t
   entry-one e =
       let bits : bits_of (take 32 s) ≡ bits_of (take 32 t) = cc in
       let second : take 32 (drop 32 s) ≡ take 32 (drop 32 t) = cc in

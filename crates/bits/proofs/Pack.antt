@@ -2,17 +2,18 @@
 use mathlib.Core.Path.{◌≡◌, refl, sym, ap, ◌∙◌, subst}
 use mathlib.Core.List.{[], ◌∷◌, ◌++◌}
 use Prim.Native.Nat.{ℕ, zero, suc, ◌+◌, ◌-◌, ◌*◌, ◌/◌, ◌%◌, ◌^◌, ◌<◌, ◌≤◌}
-use native.Mathlib.Nat.{mod-lt, mod-eq_of_lt, mul-add-mod_self_right, zero-div, div-eq_of_lt, div-lt_iff_lt-mul, sub-zero, add-zero}
+use native.Mathlib.Nat.{mod-lt, zero-div, div-eq_of_lt, div-lt_iff_lt-mul, sub-zero, add-zero}
 use native.Mathlib.Omega.{arith}
-use lib.ListN.{length, take, drop, get_or, set}
-use lib.Seq.{take-nil, drop-drop, get_or-drop}
-use lib.Pow.{pow_pos, pow_mono, split, mod-mod-pow, shr_mod}
+use lib.ListN.{length, take, drop, get_or, set, replicate, length-drop}
+use lib.Seq.{take-nil, drop-drop, get_or-drop, length-take-le}
+use lib.Pow.{pow_pos, split, mod-mod-pow, shr_mod}
 use lib.Bits.{bit_and, and_high}
-use Rattle.paper.specs.Bytes.{Bytes}
+use Rattle.paper.specs.Bytes.{Bytes, Bytewise}
 use Rattle.paper.specs.Bits.{Bits, to_bits, from_bits, bits_of, pack}
-use Rattle.paper.proofs.Lists.{drop-take}
-use Rattle.paper.proofs.Bytes.{to_bits-length, bit-val}
-use Rattle.bits.proofs.Bits.{drop-bits_of}
+use Rattle.std.proofs.lemmas.List.{drop-replicate}
+use Rattle.paper.proofs.Lists.{drop-take, all_take}
+use Rattle.paper.proofs.Bytes.{to_bits-length, bits_of-length, bit-val, pack-bits_of}
+use Rattle.bits.proofs.Bits.{drop-bits_of, take-bits_of}
 
 -- ---- the first bits of one byte
 
@@ -32,20 +33,24 @@ from_bits-take (suc n) (suc m) x h =
     rw (e, bit-val (x / 2 ^ n) q, from_bits-take n m (x % 2 ^ n) (mod-lt x (pow_pos n)))
     (subst (λ w. x / 2 ^ w * 2 ^ w + x % 2 ^ w / 2 ^ (n - m) * 2 ^ (n - m) ≡ x / 2 ^ (n - m) * 2 ^ (n - m)) f (cut_again x (n - (n - m)) (n - m)))
 
--- 255 shifted left by k in a byte
-ones-shifted : (k : ℕ) → k ≤ 8 → 255 * 2 ^ k % 256 ≡ 2 ^ 8 - 2 ^ k
-ones-shifted k h =
-    let low = pow_pos k in
-    let high : 2 ^ k ≤ 2 ^ 8 = pow_mono h in
-    let e : 255 * 2 ^ k ≡ (2 ^ k - 1) * 256 + (2 ^ 8 - 2 ^ k) = omega arith in
-    ap (λ m. m % 256) e ∙ mul-add-mod_self_right (2 ^ k - 1) 256 (2 ^ 8 - 2 ^ k) ∙ mod-eq_of_lt (omega arith)
+-- n ones above zeros
+ones-above : (n : ℕ) → n < 8 → 255 - 255 / 2 ^ n ≡ 2 ^ 8 - 2 ^ (8 - n)
+ones-above zero h = refl
+ones-above (suc zero) h = refl
+ones-above (suc (suc zero)) h = refl
+ones-above (suc (suc (suc zero))) h = refl
+ones-above (suc (suc (suc (suc zero)))) h = refl
+ones-above (suc (suc (suc (suc (suc zero))))) h = refl
+ones-above (suc (suc (suc (suc (suc (suc zero)))))) h = refl
+ones-above (suc (suc (suc (suc (suc (suc (suc zero))))))) h = refl
+ones-above (suc (suc (suc (suc (suc (suc (suc (suc n)))))))) h = absurd (omega arith)
 
 -- and a mask with it keeps the same
-pub masked : (b n : ℕ) → b < 2 ^ 8 → n ≤ 8 → bit_and b (255 * 2 ^ (8 - n) % 256) ≡ from_bits 8 (take n (to_bits 8 b))
+pub masked : (b n : ℕ) → b < 2 ^ 8 → n < 8 → bit_and b (255 - 255 / 2 ^ n) ≡ from_bits 8 (take n (to_bits 8 b))
 masked b n h l =
     let k = 8 - n in
     let e : n + k ≡ 8 = omega arith in
-    ap (bit_and b) (ones-shifted k (omega arith) ∙ ap (λ m. 2 ^ m - 2 ^ k) (sym e))
+    ap (bit_and b) (ones-above n l ∙ ap (λ m. 2 ^ m - 2 ^ k) (sym e))
     ∙ and_high b n k
     ∙ ap (λ m. m * 2 ^ k) (shr_mod n k (subst (λ m. b < 2 ^ m) (sym e) h))
     ∙ sym (from_bits-take 8 n b h)
@@ -115,3 +120,28 @@ pack-whole (suc m) p =
     let e : suc m * 8 ≡ 8 + m * 8 = omega arith in
     let h = from_bits-enough 8 (8 + m * 8) p (omega arith) in
     rw (e, h, rest-take (m * 8) p, pack-whole m (drop 8 p))
+
+-- ---- a prefix of whole bytes
+
+pack-none : (m : ℕ) → pack m [] ≡ replicate m 0
+unfolding pack from_bits
+pack-none zero = refl
+pack-none (suc m) = ap (λ s. 0 ∷ s) (pack-none m)
+
+pack-longer : (m n : ℕ) (p : Bits) → length p ≤ m * 8 → pack (m + n) p ≡ pack m p ++ replicate n 0
+unfolding pack
+pack-longer zero n [] h = let e : 0 + n ≡ n = omega arith in rw e (pack-none n)
+pack-longer zero n (b ∷ p) h = absurd (omega arith)
+pack-longer (suc m) n p h =
+    let e : suc m + n ≡ suc (m + n) = omega arith in
+    rw e (ap (λ s. from_bits 8 p ∷ s) (pack-longer m n (drop 8 p) (omega (arith, length-drop 8 p))))
+
+-- the first w bytes, and zeros
+pub pack-front : (m w : ℕ) (s : Bytes) → w ≤ m → w ≤ length s → Bytewise s → pack m (take (w * 8) (bits_of s)) ≡ take w s ++ drop w (replicate m 0)
+pack-front m w s h l k =
+    let f = take w s in
+    let n : length f ≡ w = length-take-le w s l in
+    let e : w + (m - w) ≡ m = omega arith in
+    ap (pack m) (take-bits_of w s) ∙ ap (λ j. pack j (bits_of f)) (sym e) ∙ pack-longer w (m - w) (bits_of f) (omega (arith, bits_of-length f))
+    ∙ ap (λ b. b ++ replicate (m - w) 0) (ap (λ j. pack j (bits_of f)) (sym n) ∙ pack-bits_of f (all_take (λ b. b < 256) w s k))
+    ∙ ap (λ z. f ++ z) (sym (drop-replicate w m 0))

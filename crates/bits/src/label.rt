@@ -6,15 +6,15 @@ ghost use Rattle.paper.specs.Bits.{bits_of, first_difference};
 pub fn label_bit(label: &[u8], i: usize) -> bool
     ensures { result ≡ get_or (bits_of label.now) i false }
 {
-    let j = i / 8;
-    if label.len() <= j {
+    let Some(byte) = label.get(i / 8) else {
         return false;
-    }
-    (label[j] >> (7 - i % 8)) % 2 == 1
+    };
+    (*byte >> (7 - i % 8)) % 2 == 1
 }
 
 // "The first bit at which two labels differ is 0 to 255, or 256 for equal labels." The labels are the first 32 bytes
 // of the slices. Of two that differ nowhere the shorter one's end is the answer.
+// Nested loops, which leave by a label: document 01's form for it (docs/DECISIONS.md, "Forms").
 pub fn first_difference(a: &[u8], b: &[u8]) -> usize
     ensures { result ≡ first_difference (take 32 a.now) (take 32 b.now) }
 {
@@ -23,13 +23,11 @@ pub fn first_difference(a: &[u8], b: &[u8]) -> usize
         if i == 32 || i == a.len() || i == b.len() {
             break 'bytes i * 8;
         }
-        let mut k = 0;
-        while k < 8 {
+        for k in 0..8 {
             let at = i * 8 + k;
             if label_bit(a, at) != label_bit(b, at) {
                 break 'bytes at;
             }
-            k += 1;
         }
         i += 1;
     }

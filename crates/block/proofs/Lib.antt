@@ -1,3 +1,2 @@
 -- The laws that the proofs of this crate share, on plain numbers and lists.
-pub mod Numbers
 pub mod Turns

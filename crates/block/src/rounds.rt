@@ -7,22 +7,21 @@ ghost use Rattle.fips.specs.Sha256 as S;
 use crate::schedule::schedule;
 use crate::words::{big0, big1, ch, maj};
 use fips::State;
-use std::num::wrapping_add_u32;
 
 // Step 3: T1, T2, and round t with them.
 fn t1(s: State, k: u32, w: u32) -> u32
     ensures { result ≡ S.T1 s k w }
 {
-    let x = wrapping_add_u32(s.h, big1(s.e));
-    let y = wrapping_add_u32(x, ch(s.e, s.f, s.g));
-    let z = wrapping_add_u32(y, k);
-    wrapping_add_u32(z, w)
+    s.h.wrapping_add(big1(s.e))
+        .wrapping_add(ch(s.e, s.f, s.g))
+        .wrapping_add(k)
+        .wrapping_add(w)
 }
 
 fn t2(s: State) -> u32
     ensures { result ≡ S.T2 s }
 {
-    wrapping_add_u32(big0(s.a), maj(s.a, s.b, s.c))
+    big0(s.a).wrapping_add(maj(s.a, s.b, s.c))
 }
 
 fn round(s: State, k: &[u32; 64], w: &[u32; 64], t: usize) -> State
@@ -31,11 +30,11 @@ fn round(s: State, k: &[u32; 64], w: &[u32; 64], t: usize) -> State
 {
     let x = t1(s, k[t], w[t]);
     State {
-        a: wrapping_add_u32(x, t2(s)),
+        a: x.wrapping_add(t2(s)),
         b: s.a,
         c: s.b,
         d: s.c,
-        e: wrapping_add_u32(s.d, x),
+        e: s.d.wrapping_add(x),
         f: s.e,
         g: s.f,
         h: s.g,
@@ -47,14 +46,14 @@ fn add(s: State, r: State) -> State
     ensures { result ≡ S.add s r }
 {
     State {
-        a: wrapping_add_u32(r.a, s.a),
-        b: wrapping_add_u32(r.b, s.b),
-        c: wrapping_add_u32(r.c, s.c),
-        d: wrapping_add_u32(r.d, s.d),
-        e: wrapping_add_u32(r.e, s.e),
-        f: wrapping_add_u32(r.f, s.f),
-        g: wrapping_add_u32(r.g, s.g),
-        h: wrapping_add_u32(r.h, s.h),
+        a: r.a.wrapping_add(s.a),
+        b: r.b.wrapping_add(s.b),
+        c: r.c.wrapping_add(s.c),
+        d: r.d.wrapping_add(s.d),
+        e: r.e.wrapping_add(s.e),
+        f: r.f.wrapping_add(s.f),
+        g: r.g.wrapping_add(s.g),
+        h: r.h.wrapping_add(s.h),
     }
 }
 
@@ -80,10 +79,8 @@ pub fn compress(s: State, k: &[u32; 64], b: &[u8]) -> State
 {
     let w = schedule(b);
     let mut r = s;
-    let mut t = 0;
-    while t < 64 {
-        r = eight(r, k, &w, t);
-        t += 8;
+    for turn in 0..8 {
+        r = eight(r, k, &w, 8 * turn);
     }
     add(s, r)
 }

@@ -77,7 +77,7 @@ pub fn constants() -> [u32; 64]
     K
 }
 
-// The rotation to the right by n.
+// The rotation to the right by n. By shifts: document 01's form for it (docs/DECISIONS.md, "Forms").
 fn rotr(x: u32, n: u32) -> u32
     requires { (0 < n) × (n < 32) }
     ensures { result ≡ W.rotr n x }
@@ -97,6 +97,7 @@ pub(crate) fn maj(x: u32, y: u32, z: u32) -> u32
     (x & y) ^ (x & z) ^ (y & z)
 }
 
+// Big and small sigma are four functions, as section 4.1.2 has them: one over its three numbers would be no plainer.
 pub(crate) fn big0(x: u32) -> u32
     ensures { result ≡ W.Σ0 x }
 {

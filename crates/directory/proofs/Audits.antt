@@ -16,14 +16,13 @@ use Rattle.paper.specs.Left.{Left}
 use Rattle.paper.specs.Standing.{Standing}
 use Rattle.paper.specs.Answer.{reply, audit_reply}
 use Rattle.paper.specs.declared.State.{State}
-use Rattle.paper.specs.declared.WriteAnswer.TheVariants as W
-use Rattle.paper.specs.declared.AuditAnswer.TheVariants as A
 use Rattle.paper.proofs.Lists.{and_both}
 use Rattle.paper.proofs.Writers.{answered}
 use Rattle.paper.proofs.Demand2.{audit-answered}
 use Rattle.directory.specs.Own.{directory, audit_answer}
 use Rattle.directory.proofs.Standing.{left-stands}
 use Rattle.directory.proofs.Writers.{answers}
+use Rattle.paper.specs.Answer as W
 
 module _ (lab : Labelling) (sized : Sized lab) {records heads : Bytes} {state : State} (left : Left lab records heads state) where
   abbrev rs : List Record
@@ -38,12 +37,12 @@ module _ (lab : Labelling) (sized : Sized lab) {records heads : Bytes} {state : 
   accepted zero l k = absurd (omega arith)
   accepted (suc t) l k =
       let e : t ≡ suc t - 1 = omega arith in
-      subst (λ o. check_audit (head_at heads o) (head_at heads (suc t)) (audit_field.bytes (audit_proof lab heads (suc t) rs)) ≡ A.Accepted o (suc t) (length (audit_strings (audit_proof lab heads (suc t) rs)))) e (audit-answered lab sized stands t k)
+      subst (λ o. check_audit (head_at heads o) (head_at heads (suc t)) (audit_field.bytes (audit_proof lab heads (suc t) rs)) ≡ W.audit_accepted o (suc t) (length (audit_strings (audit_proof lab heads (suc t) rs)))) e (audit-answered lab sized stands t k)
 
   module _ (t : ℕ) (out : Bytes) where
     -- ---- what the writer wrote
 
-    module _ (n : ℕ) (s : State) (written : (write_audit lab records heads state out t).answer ≡ W.Written n s) where
+    module _ (n : ℕ) (s : State) (written : (write_audit lab records heads state out t).answer ≡ W.written n s) where
       pub audit-wrote : Wrote lab records heads state out (leb 1 t) t (λ rs. distinct (all_at lab (t - 1) rs) && (distinct (old_at lab (t - 1) rs) && (distinct (all_at lab t rs) && distinct (old_at lab t rs)))) (λ rs. audit_field.bytes (audit_proof lab heads t rs)) rs n
       audit-wrote = answered lab records heads state out (leb 1 t) t _ _ rs stands.read n s written
 
@@ -60,7 +59,7 @@ module _ (lab : Labelling) (sized : Sized lab) {records heads : Bytes} {state : 
 
     -- for each step up to the current epoch, with room: what publishing left has no clash
     pub audit-answers : 1 ≤ t → t ≤ state.epoch → length (audit_field.bytes (audit_proof lab heads t rs)) ≤ length out
-        → write_audit lab records heads state out t ≡ record { answer = W.Written (length (audit_field.bytes (audit_proof lab heads t rs))) state; out = pasted out 0 (audit_field.bytes (audit_proof lab heads t rs)) }
+        → write_audit lab records heads state out t ≡ record { answer = W.written (length (audit_field.bytes (audit_proof lab heads t rs))) state; out = pasted out 0 (audit_field.bytes (audit_proof lab heads t rs)) }
     audit-answers l k n =
         let j : t - 1 ≤ state.epoch = omega arith in
         answers lab records heads state rs out (leb 1 t) t _ _ stands (le-leb 1 t l) k

@@ -25,8 +25,6 @@ use Rattle.paper.specs.Answer.{reply, history_reply}
 use Rattle.paper.specs.Arrow.{told_at, told_by, told, Collision}
 use Rattle.paper.specs.Standing.{Standing, RecordFits}
 use Rattle.paper.specs.declared.State.{State}
-use Rattle.paper.specs.declared.WriteAnswer.TheVariants as W
-use Rattle.paper.specs.declared.HistoryAnswer.TheVariants as H
 use Rattle.paper.proofs.Lists.{all_in, in-all, and_both, all_get_d, get_or-map-at}
 use Rattle.paper.proofs.Asked.{version-asked, asked-only}
 use Rattle.paper.proofs.Layouts.{parse-bytes}
@@ -43,6 +41,7 @@ use Rattle.directory.specs.Clash.{label_strings}
 use Rattle.directory.proofs.Standing.{left-stands}
 use Rattle.directory.proofs.Writers.{answers}
 use Rattle.directory.proofs.Clashes.{few, gone-or-collide}
+use Rattle.paper.specs.Answer as W
 
 -- two lists by their elements: one counted from a on, the other as it stands
 map-up : {B : Type 0} (f : ℕ → B) (g : Record → B) (d : Record) (a : ℕ) (l : List Record) → ((j : ℕ) → j < length l → f (a + j) ≡ g (get_or l j d)) → map f (up_from a (length l)) ≡ map g l
@@ -74,7 +73,7 @@ module _ (lab : Labelling) (sized : Sized lab) {records heads : Bytes} {state : 
   accepted : t ≤ state.epoch → is_name name ≡ true → unclashed lab name t rs plan ≡ true → check_history lab (head_at heads t) name (history_field.bytes proof) ≡ history_answer lab name t rs heads
   unfolding own_history
   accepted k n u =
-      history-answered lab sized stands name t k n u ∙ ap (λ v. H.Accepted v t (length (history_strings lab name proof))) (sym (length-map mine tells))
+      history-answered lab sized stands name t k n u ∙ ap (λ v. W.history_accepted v t (length (history_strings lab name proof))) (sym (length-map mine tells))
 
   -- ---- what it tells
 
@@ -141,7 +140,7 @@ module _ (lab : Labelling) (sized : Sized lab) {records heads : Bytes} {state : 
   module _ (out : Bytes) where
     -- ---- what the writer wrote
 
-    module _ (n : ℕ) (s : State) (written : (write_history lab records heads state out name t).answer ≡ W.Written n s) where
+    module _ (n : ℕ) (s : State) (written : (write_history lab records heads state out name t).answer ≡ W.written n s) where
       pub history-wrote : Wrote lab records heads state out (is_name name) t (λ rs. unclashed lab name t rs (history_asked (length (versions_by lab name t rs)) t)) (λ rs. history_field.bytes (history_proof lab name t rs heads)) rs n
       history-wrote = answered lab records heads state out (is_name name) t _ _ rs stands.read n s written
 
@@ -162,7 +161,7 @@ module _ (lab : Labelling) (sized : Sized lab) {records heads : Bytes} {state : 
 
     -- for a name, at an epoch that is reached, with room; or two different label strings have one digest
     pub history-answers : Telling lab → is_name name ≡ true → t ≤ state.epoch → length (history_field.bytes proof) ≤ length out
-        → (write_history lab records heads state out name t ≡ record { answer = W.Written (length (history_field.bytes proof)) state; out = pasted out 0 (history_field.bytes proof) })
+        → (write_history lab records heads state out name t ≡ record { answer = W.written (length (history_field.bytes proof)) state; out = pasted out 0 (history_field.bytes proof) })
         ⊎ Collision (label_strings lab name t rs plan)
     history-answers told i k n = ⊎_elim
         (λ c. inl (answers lab records heads state rs out (is_name name) t _ _ stands i k (and_both (stands.all-distinct t k) (and_both (stands.old-distinct t k) c)) n)) inr

@@ -20,7 +20,6 @@ use Rattle.paper.specs.Arrow.{last_told, Collision}
 use Rattle.paper.specs.Standing.{Standing, RecordFits}
 use Rattle.paper.specs.Strings.{HeadSized}
 use Rattle.paper.specs.declared.State.{State}
-use Rattle.paper.specs.declared.WriteAnswer.TheVariants as W
 use Rattle.paper.proofs.Lists.{all_in, and_both}
 use Rattle.paper.proofs.Fits.{head-fits, digest-wide}
 use Rattle.paper.proofs.Accepted.{gives-reply}
@@ -36,6 +35,7 @@ use Rattle.directory.specs.Clash.{label_strings}
 use Rattle.directory.proofs.Standing.{left-stands}
 use Rattle.directory.proofs.Writers.{answers}
 use Rattle.directory.proofs.Clashes.{gone-or-collide}
+use Rattle.paper.specs.Answer as W
 
 -- ---- the last of a name's records
 
@@ -106,7 +106,7 @@ module _ (lab : Labelling) (sized : Sized lab) {records heads : Bytes} {state : 
   module _ (out : Bytes) where
     -- ---- what the writer wrote
 
-    module _ (n : ℕ) (s : State) (written : (write_lookup lab records heads state out name t).answer ≡ W.Written n s) where
+    module _ (n : ℕ) (s : State) (written : (write_lookup lab records heads state out name t).answer ≡ W.written n s) where
       pub lookup-wrote : Wrote lab records heads state out (is_name name) t (λ rs. unclashed lab name t rs (lookup_asked (last_version (versions_by lab name t rs)))) (λ rs. lookup_field.bytes (lookup_proof lab name t rs heads)) rs n
       lookup-wrote = answered lab records heads state out (is_name name) t _ _ rs stands.read n s written
 
@@ -127,7 +127,7 @@ module _ (lab : Labelling) (sized : Sized lab) {records heads : Bytes} {state : 
 
     -- for a name, at an epoch that is reached, with room; or two different label strings have one digest
     pub lookup-answers : Telling lab → is_name name ≡ true → t ≤ state.epoch → length (lookup_field.bytes proof) ≤ length out
-        → (write_lookup lab records heads state out name t ≡ record { answer = W.Written (length (lookup_field.bytes proof)) state; out = pasted out 0 (lookup_field.bytes proof) })
+        → (write_lookup lab records heads state out name t ≡ record { answer = W.written (length (lookup_field.bytes proof)) state; out = pasted out 0 (lookup_field.bytes proof) })
         ⊎ Collision (label_strings lab name t rs asked)
     lookup-answers told i k n = ⊎_elim
         (λ c. inl (answers lab records heads state rs out (is_name name) t _ _ stands i k (and_both (stands.all-distinct t k) (and_both (stands.old-distinct t k) c)) n)) inr

@@ -15,9 +15,9 @@ use Rattle.paper.specs.Table.{Record, records_within, heads_within, counted, hea
 use Rattle.paper.specs.Write.{write_read, write_with}
 use Rattle.paper.specs.Standing.{Standing}
 use Rattle.paper.specs.declared.State.{State}
-use Rattle.paper.specs.declared.WriteAnswer.TheVariants as W
 use Rattle.paper.proofs.Lists.{and_both}
 use Rattle.paper.proofs.Verdicts.{verdict-all}
+use Rattle.paper.specs.Answer as W
 
 module _ (lab : Labelling) (records heads : Bytes) (state : State) (rs : List Record) (out : Bytes) (input : Bool) (t : ℕ) (clear : List Record → Bool) (proof : List Record → Bytes)
     (stands : Standing lab records heads state rs) where
@@ -25,7 +25,7 @@ module _ (lab : Labelling) (records heads : Bytes) (state : State) (rs : List Re
   read = ap (write_read lab records heads state out t clear proof) stands.read
 
   pub answers : input ≡ true → t ≤ state.epoch → clear rs ≡ true → length (proof rs) ≤ length out
-      → write_with lab records heads state out input t clear proof ≡ record { answer = W.Written (length (proof rs)) state; out = pasted out 0 (proof rs) }
+      → write_with lab records heads state out input t clear proof ≡ record { answer = W.written (length (proof rs)) state; out = pasted out 0 (proof rs) }
   unfolding write_with head_lies
   answers i k c n =
       let given : (records_within records && (heads_within heads && input)) ≡ true = and_both stands.records-within (and_both stands.heads-within i) in

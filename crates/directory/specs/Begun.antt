@@ -1,5 +1,5 @@
 -- A directory comes about: it begins, and goes on.
-use Rattle.std.specs.Prelude.{◌≡◌, [], ◌∷◌}
+use Rattle.std.specs.Prelude.{◌≡◌, [], ◌∷◌, Ok, Err}
 use Rattle.paper.specs.Numbers.{INPUT}
 use Rattle.paper.specs.Bytes.{Bytes}
 use Rattle.paper.specs.Labelling.{Labelling}
@@ -8,24 +8,21 @@ use Rattle.paper.specs.Table.{records_within}
 use Rattle.paper.specs.Publish.{Started, start, Published, publish}
 use Rattle.paper.specs.Left.{Left}
 use Rattle.paper.specs.declared.State.{State}
-use Rattle.paper.specs.declared.StartAnswer.{StartAnswer}
-use Rattle.paper.specs.declared.StartAnswer.TheVariants as S
-use Rattle.paper.specs.declared.PublishAnswer.{PublishAnswer}
-use Rattle.paper.specs.declared.PublishAnswer.TheVariants as P
+use Rattle.paper.specs.Answer.{StartAnswer, PublishAnswer, returned}
 
 -- starting, in a record table within its bounds
 unfoldable pub begun : Labelling → Bytes → Bytes → Started
-begun lab records heads = verdict (λ n. record { answer = S.Refused n; heads = heads }) (start lab heads) (test INPUT (records_within records) ∷ [])
+begun lab records heads = verdict (λ r. record { answer = Err r; heads = heads }) (start lab heads) (test INPUT (records_within records) ∷ [])
 
 -- what starting leaves is a directory
 pub record Begins (lab : Labelling) (records heads : Bytes) (x : Started) : Type 0 where
   pub is : x ≡ begun lab records heads
-  pub left : (s : State) → x.answer ≡ S.Started s → Left lab records x.heads s
+  pub left : (s : State) → x.answer ≡ Ok s → Left lab records x.heads s
 
 -- the state after publishing: the new one, or "the state as given"
 abbrev pub state_after : PublishAnswer → State
-state_after (P.Published s) = s
-state_after (P.Refused n s) = s
+state_after (Ok s) = s
+state_after (Err e) = e.state
 
 -- what publishing leaves of a directory is one, whether it succeeds or refuses
 pub record GoesOn (lab : Labelling) (records heads : Bytes) (state : State) (batch : Bytes) (x : Published) : Type 0 where
@@ -34,12 +31,12 @@ pub record GoesOn (lab : Labelling) (records heads : Bytes) (state : State) (bat
 
 -- starting, and then a first batch; a start that refuses has no state but that of no records
 abbrev pub opened_by : Labelling → Bytes → Bytes → Bytes → StartAnswer → Published
-opened_by lab records heads batch (S.Started s) = publish lab records heads s batch
-opened_by lab records heads batch (S.Refused n) = record { answer = P.Refused n (record { count = 0; epoch = 0 }); records = records; heads = heads }
+opened_by lab records heads batch (Ok s) = publish lab records heads s batch
+opened_by lab records heads batch (Err r) = record { answer = returned (record { count = 0; epoch = 0 }) r; records = records; heads = heads }
 
 unfoldable pub opened : Labelling → Bytes → Bytes → Bytes → Published
 opened lab records heads batch = opened_by lab records (begun lab records heads).heads batch (begun lab records heads).answer
 
 pub record Opens (lab : Labelling) (records heads batch : Bytes) (x : Published) : Type 0 where
   pub is : x ≡ opened lab records heads batch
-  pub left : (s : State) → x.answer ≡ P.Published s → Left lab x.records x.heads s
+  pub left : (s : State) → x.answer ≡ Ok s → Left lab x.records x.heads s

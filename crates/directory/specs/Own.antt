@@ -9,12 +9,8 @@ use Rattle.paper.specs.Audit.{audit_strings}
 use Rattle.paper.specs.Table.{Record, counted}
 use Rattle.paper.specs.Write.{versions_by, lookup_proof, history_proof, audit_proof}
 use Rattle.paper.specs.Arrow.{Told, last_told}
+use Rattle.paper.specs.Answer.{LookupAnswer, HistoryAnswer, history_accepted, AuditAnswer, audit_accepted}
 use Rattle.paper.specs.declared.State.{State}
-use Rattle.paper.specs.declared.LookupAnswer.{LookupAnswer}
-use Rattle.paper.specs.declared.HistoryAnswer.{HistoryAnswer}
-use Rattle.paper.specs.declared.HistoryAnswer.TheVariants as H
-use Rattle.paper.specs.declared.AuditAnswer.{AuditAnswer}
-use Rattle.paper.specs.declared.AuditAnswer.TheVariants as A
 
 -- the records that the state counts in the table
 abbrev pub records_read : Read (List Record) → List Record
@@ -42,8 +38,8 @@ module _ (lab : Labelling) (name : Bytes) (t : ℕ) (rs : List Record) where
   lookup_answer heads = lookup_gives lab name own_lookup.version t (length (lookup_strings lab name (lookup_proof lab name t rs heads)))
 
   abbrev pub history_answer : Bytes → HistoryAnswer
-  history_answer heads = H.Accepted (length own_history) t (length (history_strings lab name (history_proof lab name t rs heads)))
+  history_answer heads = history_accepted (length own_history) t (length (history_strings lab name (history_proof lab name t rs heads)))
 
 -- "an audit gives both epochs and its digests"
 abbrev pub audit_answer : Labelling → ℕ → List Record → Bytes → AuditAnswer
-audit_answer lab t rs heads = A.Accepted (t - 1) t (length (audit_strings (audit_proof lab heads t rs)))
+audit_answer lab t rs heads = audit_accepted (t - 1) t (length (audit_strings (audit_proof lab heads t rs)))

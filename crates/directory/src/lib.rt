@@ -7,7 +7,7 @@ ghost use Rattle.paper.specs.Left.{Left};
 ghost use Rattle.directory.specs.Begun as B;
 
 use bounds::records_within;
-use paper::{PublishAnswer, StartAnswer, State};
+use paper::{PublishAnswer, Refusal, Returned, StartAnswer, State};
 use publish::publish;
 use start::start;
 
@@ -16,7 +16,7 @@ pub fn begun(records: &[u8], heads: &mut [u8]) -> StartAnswer
     ensures { B.Begins plain records.now heads.old (record { answer = result; heads = heads.new }) }
 {
     if !records_within(records) {
-        return StartAnswer::Refused(1);
+        return Err(Refusal::Input);
     }
     start(heads)
 }
@@ -35,10 +35,10 @@ pub fn opened(records: &mut [u8], heads: &mut [u8], batch: &[u8]) -> PublishAnsw
     ensures { B.Opens plain records.old heads.old batch.now (record { answer = result; records = records.new; heads = heads.new }) }
 {
     match begun(records, heads) {
-        StartAnswer::Refused(number) => PublishAnswer::Refused {
-            number,
+        Ok(state) => further(records, heads, state, batch),
+        Err(refusal) => Err(Returned {
+            refusal,
             state: State { count: 0, epoch: 0 },
-        },
-        StartAnswer::Started(state) => further(records, heads, state, batch),
+        }),
     }
 }

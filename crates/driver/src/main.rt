@@ -2,49 +2,34 @@
 // from standard input until that ends, and writes a line for each.
 #![tactic(auto)]
 
-mod rooms;
-
-ghost use Rattle.wire.specs.Rooms.{Spacious, Roomy};
-
-use rooms::{blank, blank_spare};
+use reply::print_bad;
 use std::io::{Read, Write};
-use wire::{Next, Request};
+use wire::{Call, Request, Space, Spare, Unreadable, next_request};
 
-// No call has another number.
+// The rooms, each made by a function of its own, so that its zeros stand in no goal.
+fn blank() -> Space {
+    [0; 3_277_312]
+}
+
+fn blank_spare() -> Spare {
+    [0; 1_200_000]
+}
+
+// No call has a number that `Call` does not know.
 fn answer<I: Read, O: Write>(
     input: &mut I,
     output: &mut O,
-    call: u8,
-    r: Request,
-    space: &mut [u8],
-    spare: &mut [u8],
-)
-    requires { Spacious space.old × Roomy spare.old }
-{
-    match call {
-        1 | 2 | 3 | 4 | 5 | 6 | 7 => handset_calls::answer(input, output, call, r, space),
-        8 | 9 => tree_calls::answer(input, output, call, r, space),
-        10 | 11 => server_calls::answer(input, output, call, r, space, spare),
-        14 => writer_calls::answer_audit(input, output, r, space, spare),
-        _ => reply::print_bad(input, output, r),
-    }
-}
-
-// Lookup and history proofs are written beside the other calls. The compiler joins the frames of those in one, an audit writer's arrays with
-// them, and these would come on top.
-fn answer_any<I: Read, O: Write>(
-    input: &mut I,
-    output: &mut O,
-    call: u8,
-    r: Request,
-    space: &mut [u8],
-    spare: &mut [u8],
-)
-    requires { Spacious space.old × Roomy spare.old }
-{
-    match call {
-        12 | 13 => writer_calls::answer(input, output, call, r, space, spare),
-        _ => answer(input, output, call, r, space, spare),
+    number: u8,
+    request: &mut Request,
+    space: &mut Space,
+    spare: &mut Spare,
+) -> Result<(), Unreadable> {
+    match Call::try_from(number)? {
+        Call::Handset(call) => handset_calls::answer(input, output, call, request, space),
+        Call::Tree(call) => tree_calls::answer(input, output, call, request, space),
+        Call::Server(call) => server_calls::answer(input, output, call, request, space, spare),
+        Call::Proof(call) => writer_calls::answer(input, output, call, request, space, spare),
+        Call::Audit => writer_calls::answer_audit(input, output, request, space, spare),
     }
 }
 
@@ -52,26 +37,30 @@ fn answer_any<I: Read, O: Write>(
 fn turn<I: Read, O: Write>(
     input: &mut I,
     output: &mut O,
-    space: &mut [u8],
-    spare: &mut [u8],
-) -> bool
-    requires { Spacious space.old × Roomy spare.old }
-{
-    let Next::Call(call, r) = wire::next_request(input) else {
-        return false;
-    };
-    answer_any(input, output, call, r, space, spare);
+    space: &mut Space,
+    spare: &mut Spare,
+) -> bool {
+    match next_request(input) {
+        Ok(None) => return false,
+        Ok(Some((number, mut request))) => {
+            if answer(input, output, number, &mut request, space, spare).is_err() {
+                print_bad(input, output, request);
+            }
+        }
+        Err(Unreadable) => print_bad(input, output, Request { left: 0 }),
+    }
     true
 }
 
-// A proved loop has to end, and nothing says that the input does: so it counts down, from a number that no run uses up.
+// A proved loop has to end, and nothing says that the input does: so it counts, to a number that no run comes to.
 fn main(rt: HostRuntime) {
     let mut input = rt.stdin();
     let mut output = rt.stdout();
     let mut space = blank();
     let mut spare = blank_spare();
-    let mut turns = u64::MAX;
-    while 0 < turns && turn(&mut input, &mut output, &mut space, &mut spare) {
-        turns -= 1;
+    for _ in 0..u64::MAX {
+        if !turn(&mut input, &mut output, &mut space, &mut spare) {
+            break;
+        }
     }
 }

@@ -10,7 +10,7 @@ use Rattle.paper.specs.Layout.{Layout, Read, got, bad, and_then, times, times_re
 use Rattle.paper.proofs.Lists.{all_drop}
 use Rattle.paper.proofs.Layouts.{Lawful, then-got}
 use Rattle.fields.specs.After.{after_of, after_at}
-use Rattle.fields.specs.declared.After.TheVariants.{At, Nowhere}
+use Rattle.std.specs.Prelude.{Some, None}
 
 -- what was read in s from `at` on: it fits, its bytes stand there, and the rest behind them
 pub record Stood {A : Type 0} (a : Layout A) (s : Bytes) (at : ℕ) (x : A) (r : Bytes) : Type 0 where
@@ -59,15 +59,15 @@ module _ {A : Type 0} {a : Layout A} (h : Lawful a) (s : Bytes) (w : Bytewise s)
       }
 
   -- the place behind is no place outside
-  pub after-within : (at next : ℕ) → at ≤ length s → after_at a s at ≡ At next → next ≤ length s
+  pub after-within : (at next : ℕ) → at ≤ length s → after_at a s at ≡ Some next → next ≤ length s
   after-within at next l e = by (a.read (drop at s)) refl e
     where
-      by : (m : Read A) → a.read (drop at s) ≡ m → after_of (length s) m ≡ At next → next ≤ length s
+      by : (m : Read A) → a.read (drop at s) ≡ m → after_of (length s) m ≡ Some next → next ≤ length s
       by bad q e = let z : ◌≡◌ {A = ℕ} 0 1 = cc in absurd (omega arith)
       by (got x r) q e = let p : length s - length r ≡ next = cc in omega arith
 
   -- n values one behind the other: the first is read, and the others behind it; or it is not
-  pub times-on : (n at next : ℕ) → at ≤ length s → after_at a s at ≡ At next → after_at (times (suc n) a) s at ≡ after_at (times n a) s next
+  pub times-on : (n at next : ℕ) → at ≤ length s → after_at a s at ≡ Some next → after_at (times (suc n) a) s at ≡ after_at (times n a) s next
   unfolding times times_read
   times-on n at next l e = by (a.read (drop at s)) refl e
     where
@@ -75,7 +75,7 @@ module _ {A : Type 0} {a : Layout A} (h : Lawful a) (s : Bytes) (w : Bytewise s)
       many x bad = refl
       many x (got k q) = refl
 
-      by : (m : Read A) → a.read (drop at s) ≡ m → after_of (length s) m ≡ At next
+      by : (m : Read A) → a.read (drop at s) ≡ m → after_of (length s) m ≡ Some next
           → after_of (length s) (and_then m (λ x r. and_then (times_read a.read n r) (λ k q. got (x ∷ k) q))) ≡ after_of (length s) (times_read a.read n (drop next s))
       by bad q e = let z : ◌≡◌ {A = ℕ} 0 1 = cc in absurd (omega arith)
       by (got x r) q e =
@@ -83,26 +83,26 @@ module _ {A : Type 0} {a : Layout A} (h : Lawful a) (s : Bytes) (w : Bytewise s)
           let p : next ≡ at + length (a.bytes x) = (let u : length s - length r ≡ next = cc in sym u ∙ t.place) in
           many x (times_read a.read n r) ∙ ap (λ u. after_of (length s) (times_read a.read n u)) (sym t.rest ∙ ap (λ i. drop i s) (sym p))
 
-  pub times-stop : (n at : ℕ) → after_at a s at ≡ Nowhere → after_at (times (suc n) a) s at ≡ Nowhere
+  pub times-stop : (n at : ℕ) → after_at a s at ≡ None → after_at (times (suc n) a) s at ≡ None
   unfolding times times_read
   times-stop n at e = by (a.read (drop at s)) e
     where
-      by : (m : Read A) → after_of (length s) m ≡ Nowhere
-          → after_of (length s) (and_then m (λ x r. and_then (times_read a.read n r) (λ k q. got (x ∷ k) q))) ≡ Nowhere
+      by : (m : Read A) → after_of (length s) m ≡ None
+          → after_of (length s) (and_then m (λ x r. and_then (times_read a.read n r) (λ k q. got (x ∷ k) q))) ≡ None
       by bad e = refl
       by (got x r) e = let z : ◌≡◌ {A = ℕ} 0 1 = cc in absurd (omega arith)
 
-  pub times_none : (at : ℕ) → at ≤ length s → after_at (times 0 a) s at ≡ At at
+  pub times_none : (at : ℕ) → at ≤ length s → after_at (times 0 a) s at ≡ Some at
   unfolding times times_read
-  times_none at l = let e : length s - length (drop at s) ≡ at = omega (arith, length-drop at s) in ap At e
+  times_none at l = let e : length s - length (drop at s) ≡ at = omega (arith, length-drop at s) in ap Some e
 
   -- as a loop goes: i of n are behind
   module _ (n i at : ℕ) (l : at ≤ length s) where
-    pub loop-on : (next : ℕ) → i < n → after_at a s at ≡ At next → after_at (times (n - i) a) s at ≡ after_at (times (n - (i + 1)) a) s next
+    pub loop-on : (next : ℕ) → i < n → after_at a s at ≡ Some next → after_at (times (n - i) a) s at ≡ after_at (times (n - (i + 1)) a) s next
     loop-on next k e = let j : n - i ≡ suc (n - (i + 1)) = omega arith in rw j (times-on (n - (i + 1)) at next l e)
 
-    pub loop-stop : i < n → after_at a s at ≡ Nowhere → after_at (times (n - i) a) s at ≡ Nowhere
+    pub loop-stop : i < n → after_at a s at ≡ None → after_at (times (n - i) a) s at ≡ None
     loop-stop k e = let j : n - i ≡ suc (n - (i + 1)) = omega arith in rw j (times-stop (n - (i + 1)) at e)
 
-    pub loop-end : n ≤ i → after_at (times (n - i) a) s at ≡ At at
+    pub loop-end : n ≤ i → after_at (times (n - i) a) s at ≡ Some at
     loop-end k = let j : n - i ≡ 0 = omega arith in rw j (times_none at l)

@@ -1,2 +1,1 @@
--- Laws of trees grown from records.
-pub mod Standing
+-- No laws of their own: what `grow` needs stands with it.

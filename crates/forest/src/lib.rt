@@ -2,52 +2,57 @@
 // row, brought into bit order there, and the digests below the root are kept in lent slots.
 #![tactic(auto)]
 
+ghost use Rattle.std.specs.Prelude.{◌≡◌, length};
 ghost use Rattle.record.specs.Places.{records_in};
 ghost use Rattle.gather.specs.Gathered.{leaves_by};
 ghost use Rattle.forest.specs.Grown.{Ground, Grows};
 
 use arrange::arrange;
 use gather::gather;
-use tree::{Sides, store};
+use leaf_row::leaves_of;
+use paper::Which;
+use tree::{Children, StoredTree};
 
-// How many leaves a tree has, whether no two of them share a label, and then the two sides of its root.
+// Both trees of an epoch.
 #[derive(Clone, Copy)]
-pub struct Grown {
-    pub leaves: usize,
-    pub clear: bool,
-    pub sides: Sides,
+pub struct Trees<'a> {
+    pub all: StoredTree<'a>,
+    pub old: StoredTree<'a>,
 }
 
-// "The tree of epoch t has the leaves with epoch at most t.": tree *old* or tree *all*. A record gives either of them two leaves at
-// most, for which the row and the slots have room. Where two leaves share a label there is no tree, and the slots are as they were.
-pub fn grow(
+// Room for the leaves of a tree, two for each of 4,096 records.
+pub fn row() -> [u8; 557056] {
+    [0u8; 557056]
+}
+
+// Room for its slots.
+pub fn slots() -> [Children; 8192]
+    ensures { length result ≡ 8192 }
+{
+    [Children {
+        left: [0u8; 32],
+        right: [0u8; 32],
+    }; 8192]
+}
+
+// "The tree of epoch t has the leaves with epoch at most t.": tree *old* or tree *all*, where no two of its leaves share a label. A record
+// gives either of them two leaves at most, for which the row and the slots have room.
+pub fn grow<'a>(
     records: &[u8],
     count: usize,
     epoch: u32,
-    old: bool,
-    row: &mut [u8],
-    slots: &mut [u8],
-) -> Grown
+    which: Which,
+    row: &'a mut [u8],
+    slots: &'a mut [Children],
+) -> Option<StoredTree<'a>>
     requires { Ground records.now count row.old slots.old }
-    ensures { Grows (leaves_by old epoch (records_in count records.now)) row.new slots.new result }
+    ensures { Grows (leaves_by which epoch (records_in count records.now)) result }
 {
-    let n = gather(records, count, epoch, old, row, 0);
+    let n = gather(records, count, epoch, which, row, 0);
     let size = n * 68;
-    if !arrange(&mut row[..size], n) {
-        return Grown {
-            leaves: n,
-            clear: false,
-            sides: Sides {
-                split: 0,
-                left: [0u8; 32],
-                right: [0u8; 32],
-            },
-        };
+    let leaves = leaves_of(&mut row[..size]);
+    if !arrange(leaves) {
+        return None;
     }
-    let room = n * 64;
-    Grown {
-        leaves: n,
-        clear: true,
-        sides: store(&row[..size], n, &mut slots[..room]),
-    }
+    Some(StoredTree::store(leaves, &mut slots[..n]))
 }

@@ -18,6 +18,7 @@ use Rattle.paper.proofs.Pasted.{pasted-none}
 use Rattle.words.proofs.Number.{pasted-byte}
 use Rattle.record.specs.Places.{record_in, record_at, records_in, Stands}
 use Rattle.gather.proofs.Leaves.{key-few}
+use Rattle.std.specs.Prelude.{None, Some}
 use Rattle.table.specs.Index.{last_where}
 use Rattle.own.specs.Own.{own_by}
 use Rattle.own.proofs.Versions.{versions-zero, versions-yes, versions-no, versions-none, versions-last, item-none, item-last}
@@ -152,10 +153,10 @@ module _ (s name : Bytes) (t from : ℕ) where
 pub items-all : (s name : Bytes) (t n : ℕ) → items_from s name t 0 n ≡ map item_of (versions_by plain name t (records_in n s))
 items-all s name t n = ap (λ (l : List Record). map item_of (drop (length l) (versions_by plain name t (records_in n s)))) (versions-zero s name t)
 
-pub items-none : (s name : Bytes) (t from n : ℕ) → last_where (own_by s name t) n ≡ 0 → items_from s name t from n ≡ last_item (versions_by plain name t (records_in n s))
+pub items-none : (s name : Bytes) (t from n : ℕ) → last_where (own_by s name t) n ≡ None → items_from s name t from n ≡ last_item (versions_by plain name t (records_in n s))
 items-none s name t from n h = ap (λ l. map item_of (drop (length (versions_by plain name t (records_in from s))) l)) (versions-none s name t n h) ∙ ap (map item_of) (drop-none (length (versions_by plain name t (records_in from s)))) ∙ sym (item-none s name t n h)
 
-pub items-last : (s name : Bytes) (t k n : ℕ) → last_where (own_by s name t) n ≡ suc k → items_from s name t k n ≡ last_item (versions_by plain name t (records_in n s))
+pub items-last : (s name : Bytes) (t k n : ℕ) → last_where (own_by s name t) n ≡ Some k → items_from s name t k n ≡ last_item (versions_by plain name t (records_in n s))
 items-last s name t k n h =
     let before = versions_by plain name t (records_in k s) in
     ap (λ l. map item_of (drop (length before) l)) (versions-last s name t n k h) ∙ ap (map item_of) (drop-append_seam before (record_at s k ∷ [])) ∙ sym (item-last s name t n k h)

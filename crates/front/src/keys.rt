@@ -38,13 +38,9 @@ pub fn items_size(records: &[u8], count: usize, from: usize, name: &[u8], epoch:
     ensures { result ≡ length (item_bytes (items_from records.now name.now epoch from count)) }
 {
     let mut size = 0;
-    let mut i = from;
-    while i < count {
+    for i in from..count {
         if is_own(records, i, name, epoch) {
             size += item_size(records, i);
-            i += 1;
-        } else {
-            i += 1;
         }
     }
     size
@@ -64,13 +60,9 @@ pub fn write_items(
     ensures { Wrote out.old at (item_bytes (items_from records.now name.now epoch from count)) out.new result }
 {
     let mut next = at;
-    let mut i = from;
-    while i < count {
+    for i in from..count {
         if is_own(records, i, name, epoch) {
             next = write_item(records, i, out, next);
-            i += 1;
-        } else {
-            i += 1;
         }
     }
     next

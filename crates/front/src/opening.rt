@@ -18,7 +18,8 @@ pub fn previous_head(heads: &[u8], epoch: u32) -> [u8; 32]
     digest_at(heads, ((epoch - 1) as usize) * 32)
 }
 
-// The 108 bytes at the start: header, head, and a lookup's version or a history's n.
+// The 108 bytes at the start: header, head, and a lookup's version or a history's n. The kind is the header's byte, which `front_bytes`
+// has for every byte.
 pub fn write_front(
     out: &mut [u8],
     kind: u8,

@@ -1,6 +1,5 @@
 -- The leaves of one record, case by case, and those of more and more records. Assumes nothing.
 use mathlib.Core.Path.{◌≡◌, refl, sym, ap, ◌∙◌}
-use mathlib.Core.Bool.{Bool, true, false}
 use mathlib.Core.List.{List, [], ◌∷◌, ◌++◌, append-nil, append_assoc, flat_map}
 use Prim.Native.Nat.{ℕ, zero, suc, ◌-◌, ◌*◌, ◌^◌, ◌≤◌, ◌<◌}
 use native.Mathlib.Omega.{arith}
@@ -17,6 +16,8 @@ use Rattle.paper.specs.Labelling.{plain}
 use Rattle.paper.specs.Lists.{keep}
 use Rattle.paper.specs.Table.{Record, by_epoch, all_leaves, old_leaves}
 use Rattle.paper.proofs.Lists.{keep_append}
+use Rattle.paper.specs.declared.Which.{Which}
+use Rattle.paper.specs.declared.Which.TheVariants.{OfAll, OfOld}
 use Rattle.record.specs.Places.{record_in, record_at, records_in}
 use Rattle.record.proofs.Places.{records-none, records-snoc}
 use Rattle.gather.specs.Gathered.{leaves_of, leaves_by}
@@ -59,42 +60,42 @@ module _ (r : Record) where
   old-one h = rw (lt-ltb 1 r.version h)
 
   -- "The tree of epoch t has the leaves with epoch at most t."
-  pub by-later : (old : Bool) (t : ℕ) → t < r.epoch → leaves_by old t (r ∷ []) ≡ []
+  pub by-later : (which : Which) (t : ℕ) → t < r.epoch → leaves_by which t (r ∷ []) ≡ []
   unfolding by_epoch keep flat_map
-  by-later old t h = rw (lt-leb r.epoch t h)
+  by-later which t h = rw (lt-leb r.epoch t h)
 
-  pub by-then : (old : Bool) (t : ℕ) → r.epoch ≤ t → leaves_by old t (r ∷ []) ≡ leaves_of old r
+  pub by-then : (which : Which) (t : ℕ) → r.epoch ≤ t → leaves_by which t (r ∷ []) ≡ leaves_of which r
   unfolding by_epoch keep flat_map
-  by-then old t h = rw (le-leb r.epoch t h) (append-nil (leaves_of old r))
+  by-then which t h = rw (le-leb r.epoch t h) (append-nil (leaves_of which r))
 
-  pub few-leaves : (old : Bool) (t : ℕ) → length (leaves_by old t (r ∷ [])) ≤ 2
-  few-leaves old t = by_cases (dec_le r.epoch t)
-      (λ h. rw (by-then old t h) (few old))
-      (λ h. rw (by-later old t (omega arith)) (omega arith))
+  pub few-leaves : (which : Which) (t : ℕ) → length (leaves_by which t (r ∷ [])) ≤ 2
+  few-leaves which t = by_cases (dec_le r.epoch t)
+      (λ h. rw (by-then which t h) (few which))
+      (λ h. rw (by-later which t (omega arith)) (omega arith))
     where
-      few : (old : Bool) → length (leaves_of old r) ≤ 2
-      few true = by_cases (dec_le r.version 1) (λ h. rw (old-none h) (omega arith)) (λ h. rw (old-one (omega arith)) (omega arith))
-      few false = by_cases (ℕ_discrete (2 ^ log2 r.version) r.version) (λ e. rw (all-marked e) (omega arith)) (λ n. rw (all-unmarked n) (omega arith))
+      few : (which : Which) → length (leaves_of which r) ≤ 2
+      few OfOld = by_cases (dec_le r.version 1) (λ h. rw (old-none h) (omega arith)) (λ h. rw (old-one (omega arith)) (omega arith))
+      few OfAll = by_cases (ℕ_discrete (2 ^ log2 r.version) r.version) (λ e. rw (all-marked e) (omega arith)) (λ n. rw (all-unmarked n) (omega arith))
 
 flat_append : {A B : Type 0} (f : A → List B) (l m : List A) → flat_map f (l ++ m) ≡ flat_map f l ++ flat_map f m
 unfolding flat_map
 flat_append f [] m = refl
 flat_append f (x ∷ l) m = ap (λ k. f x ++ k) (flat_append f l m) ∙ sym (append_assoc (f x) (flat_map f l) (flat_map f m))
 
-pub by_append : (old : Bool) (t : ℕ) (rs qs : List Record) → leaves_by old t (rs ++ qs) ≡ leaves_by old t rs ++ leaves_by old t qs
+pub by_append : (which : Which) (t : ℕ) (rs qs : List Record) → leaves_by which t (rs ++ qs) ≡ leaves_by which t rs ++ leaves_by which t qs
 unfolding by_epoch
-by_append old t rs qs = ap (flat_map (leaves_of old)) (keep_append _ rs qs) ∙ flat_append (leaves_of old) _ _
+by_append which t rs qs = ap (flat_map (leaves_of which)) (keep_append _ rs qs) ∙ flat_append (leaves_of which) _ _
 
 -- no records, and one more
-pub by-none : (old : Bool) (t : ℕ) (s : Bytes) → leaves_by old t (records_in 0 s) ≡ []
+pub by-none : (which : Which) (t : ℕ) (s : Bytes) → leaves_by which t (records_in 0 s) ≡ []
 unfolding by_epoch keep flat_map
-by-none old t s = rw (records-none s) refl
+by-none which t s = rw (records-none s) refl
 
-pub by-snoc : (old : Bool) (t : ℕ) (s : Bytes) (i : ℕ) → leaves_by old t (records_in (suc i) s) ≡ leaves_by old t (records_in i s) ++ leaves_by old t (record_at s i ∷ [])
-by-snoc old t s i = ap (leaves_by old t) (records-snoc i s) ∙ by_append old t (records_in i s) (record_at s i ∷ [])
+pub by-snoc : (which : Which) (t : ℕ) (s : Bytes) (i : ℕ) → leaves_by which t (records_in (suc i) s) ≡ leaves_by which t (records_in i s) ++ leaves_by which t (record_at s i ∷ [])
+by-snoc which t s i = ap (leaves_by which t) (records-snoc i s) ∙ by_append which t (records_in i s) (record_at s i ∷ [])
 
 -- a record gives two leaves at most
-pub by-few : (old : Bool) (t : ℕ) (s : Bytes) (n : ℕ) → length (leaves_by old t (records_in n s)) ≤ 2 * n
-by-few old t s zero = rw (by-none old t s) (omega arith)
-by-few old t s (suc n) =
-    rw (by-snoc old t s n) (omega (arith, length-append (leaves_by old t (records_in n s)) (leaves_by old t (record_at s n ∷ [])), by-few old t s n, few-leaves (record_at s n) old t))
+pub by-few : (which : Which) (t : ℕ) (s : Bytes) (n : ℕ) → length (leaves_by which t (records_in n s)) ≤ 2 * n
+by-few which t s zero = rw (by-none which t s) (omega arith)
+by-few which t s (suc n) =
+    rw (by-snoc which t s n) (omega (arith, length-append (leaves_by which t (records_in n s)) (leaves_by which t (record_at s n ∷ [])), by-few which t s n, few-leaves (record_at s n) which t))

@@ -1,4 +1,2 @@
--- Laws of a history check.
-pub mod Standing
-pub mod Tested
-pub mod Checked
+-- Proofs of the history check.
+mod Checked

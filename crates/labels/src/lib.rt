@@ -13,6 +13,7 @@ use words::write16;
 
 // "Label: 0x04, kind 1, number 2, name. Kind 1 is a version, kind 2 a marker." A name has at most 64
 // bytes, which the caller has tested.
+// The kind is the string's byte: `label_string` is over every byte, and an enum would ask more of callers.
 pub fn label(kind: u8, number: u16, name: &[u8]) -> [u8; 32]
     requires { length name.now ≤ 64 }
     ensures { result ≡ F.sha256 (S.label_string kind number name.now) }

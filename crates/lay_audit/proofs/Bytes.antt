@@ -15,7 +15,6 @@ use Rattle.paper.specs.Fields.{head_field}
 use Rattle.paper.specs.Audit.{Audit, in_order, olds, list_field, audit_field}
 use Rattle.paper.specs.Table.{previous_head}
 use Rattle.paper.specs.Write.{below_root}
-use Rattle.paper.specs.Level.{leaves_in}
 use Rattle.paper.proofs.Bytes.{be-length}
 use Rattle.paper.proofs.Pasted.{pasted-behind}
 use Rattle.paper.proofs.Proofs.{list_lawful}
@@ -23,8 +22,10 @@ use Rattle.paper.proofs.Fits.{digest-wide}
 use Rattle.paper.proofs.Honest.{LeafSet}
 use Rattle.paper.proofs.Audited.{list-order, list-fit}
 use Rattle.ranges.proofs.Slices.{length_part}
-use Rattle.tree.specs.Stored.{Sorted, Stored}
-use Rattle.tree.specs.declared.Sides.{Sides}
+use Rattle.leaf_row.specs.Row.{as_nodes}
+use Rattle.leaf_row.proofs.Rows.{nodes-length}
+use Rattle.tree.specs.Stored.{Sorted}
+use Rattle.tree.specs.declared.StoredTree.{StoredTree}
 use Rattle.path_fields.specs.Written.{Wrote}
 use Rattle.tree_path.proofs.Root as Root
 use Rattle.path_fields.proofs.Writing.{laid_next}
@@ -33,7 +34,7 @@ use Rattle.subtrees.proofs.Records.{list-size}
 use Rattle.front.proofs.Front.{head-parts, previous-some}
 use Rattle.audit_form.specs.Places.{count_at, records_at}
 use Rattle.audit_form.proofs.Form.{ListStands, list-stands}
-use Rattle.lay_audit.specs.Audited.{head_with, root_before, audit_with, bytes_with, new_with, NewLaid, Step}
+use Rattle.lay_audit.specs.Audited.{head_with, root_before, audit_with, bytes_with, new_with, NewLaid, Step, Listable}
 
 -- ---- a head
 
@@ -181,15 +182,15 @@ module _ (z : Bytes) (at t : ℕ) (S : List Node) (set : LeafSet S) (l : ListSta
   stands-root = ap (λ R. root_digest (olds R)) l.records
 
 -- over leaves in bit order, by how many records the lists have
-pub rows-size : (heads : Bytes) (t n m : ℕ) (s u : Bytes) → Step heads t → Sorted n s → Sorted m u
-    → length (bytes_with heads t (leaves_in n s) (leaves_in m u)) ≡ 214 + (length (below_root t (root (leaves_in n s))) + length (below_root t (root (leaves_in m u)))) * 99
-rows-size heads t n m s u step ws wu =
-    with_size heads t (leaves_in n s) (leaves_in m u) step
-    ∙ omega (arith, new-size heads t (leaves_in n s) (leaves_in m u) step, list-size t n s (omega (arith, ws.size)), list-size t m u (omega (arith, wu.size)))
+pub rows-size : (heads : Bytes) (t : ℕ) (A O : List Node) → Step heads t → Sorted A → Sorted O
+    → length (bytes_with heads t A O) ≡ 214 + (length (below_root t (root A)) + length (below_root t (root O))) * 99
+rows-size heads t A O step wa wo = with_size heads t A O step ∙ omega (arith, new-size heads t A O step, list-size t A wa.sized, list-size t O wo.sized)
 
 -- "audit records per tree | 0 to 16,384": there are no more records than leaves
-pub list-few : (t n : ℕ) (s slots : Bytes) (r : Sides) → Sorted n s → Stored n s slots r → n ≤ 16384 → length (below_root t (root (leaves_in n s))) ≤ 16384
-list-few t n s slots r w h k = omega (arith, root-few t n s r.split w (Root.parts n s slots r w h))
+pub list-few : (t : ℕ) (T : StoredTree) → Listable T → length (below_root t (root (as_nodes T.leaves.now))) ≤ 16384
+list-few t T k =
+    let S = as_nodes T.leaves.now in
+    omega (arith, root-few t S T.sides.split k.tree.sorted (Root.parts S T.slots.now T.sides k.tree.sorted k.tree.stored), nodes-length T.leaves.now, k.few)
 
 -- a head as its roots were found
 pub head-found : (heads : Bytes) (t : ℕ) (o : Bytes) (at : ℕ) {a b x y : Bytes} → a ≡ x → b ≡ y → pasted o at (head_field.bytes (head_with heads t a b)) ≡ pasted o at (head_field.bytes (head_with heads t x y))

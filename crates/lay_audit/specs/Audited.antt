@@ -8,8 +8,8 @@ use Rattle.paper.specs.Fields.{head_field}
 use Rattle.paper.specs.Audit.{Audit, olds, list_field, audit_field}
 use Rattle.paper.specs.Table.{previous_head}
 use Rattle.paper.specs.Write.{below_root}
-use Rattle.tree.specs.Stored.{Sorted, Stored}
-use Rattle.forest.specs.declared.Grown.{Grown}
+use Rattle.tree.specs.Stored.{Kept}
+use Rattle.tree.specs.declared.StoredTree.{StoredTree}
 
 -- the head of epoch t over two roots
 abbrev pub head_with : Bytes → ℕ → Bytes → Bytes → Head
@@ -45,11 +45,7 @@ pub record Step (heads : Bytes) (t : ℕ) : Type 0 where
   pub later : 1 ≤ t
   pub reach : t * wide ≤ length heads
 
--- both trees are stored
-pub record Kept (all all_slots : Bytes) (a : Grown) (old old_slots : Bytes) (o : Grown) : Type 0 where
-  pub first : Sorted a.leaves all
-  pub second : Sorted o.leaves old
-  pub first_stored : Stored a.leaves all all_slots a.sides
-  pub second_stored : Stored o.leaves old old_slots o.sides
-  pub first_few : a.leaves ≤ audit_most
-  pub second_few : o.leaves ≤ audit_most
+-- a tree is stored, with no more leaves than a list may have
+pub record Listable (t : StoredTree) : Type 0 where
+  pub tree : Kept t
+  pub few : length t.leaves.now ≤ audit_most

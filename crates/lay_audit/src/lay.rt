@@ -3,17 +3,16 @@
 ghost use Rattle.std.specs.Prelude.{◌≡◌, true, ◌+◌, ◌*◌, ◌≤◌, length};
 ghost use Rattle.paper.specs.Bytes.{pasted};
 ghost use Rattle.paper.specs.Fields.{head_field};
-ghost use Rattle.paper.specs.Level.{leaves_in};
 ghost use Rattle.paper.specs.Tree.{root_digest};
 ghost use Rattle.paper.specs.Audit.{olds, in_order};
+ghost use Rattle.leaf_row.specs.Row.{as_nodes};
 ghost use Rattle.audit_form.specs.Places.{count_at, records_at, Listed};
-ghost use Rattle.lay_audit.specs.Audited.{head_with, new_with, bytes_with, NewLaid, Step, Kept};
+ghost use Rattle.lay_audit.specs.Audited.{head_with, new_with, bytes_with, NewLaid, Step, Listable};
 
-use forest::Grown;
 use front::previous_head;
 use ranges::put;
 use subtrees::write_list;
-use tree::root;
+use tree::StoredTree;
 use words::{read32, write32};
 
 // "the 100 bytes of a head after its 0x03", at `at`. "A previous head is read from the head table, and no other head is."
@@ -33,22 +32,16 @@ fn write_head(heads: &[u8], epoch: u32, all: &[u8; 32], old: &[u8; 32], out: &mu
 fn lay_new(
     heads: &[u8],
     epoch: u32,
-    all: &[u8],
-    all_slots: &[u8],
-    a: Grown,
-    old: &[u8],
-    old_slots: &[u8],
-    o: Grown,
+    all: &StoredTree<'_>,
+    old: &StoredTree<'_>,
     out: &mut [u8],
 ) -> usize
-    requires { Step heads.now epoch × Kept all.now all_slots.now a old.now old_slots.now o × (106 + length (new_with heads.now epoch (leaves_in a.leaves all.now) (leaves_in o.leaves old.now)) ≤ length out.old) }
-    ensures { NewLaid heads.now epoch (leaves_in a.leaves all.now) (leaves_in o.leaves old.now) out.old out.new result }
+    requires { Step heads.now epoch × Listable all.now × Listable old.now × (106 + length (new_with heads.now epoch (as_nodes all.now.leaves.now) (as_nodes old.now.leaves.now)) ≤ length out.old) }
+    ensures { NewLaid heads.now epoch (as_nodes all.now.leaves.now) (as_nodes old.now.leaves.now) out.old out.new result }
 {
-    let all_after = root(a.sides);
-    let old_after = root(o.sides);
-    write_head(heads, epoch, &all_after, &old_after, out, 106);
-    let next = write_list(all, a.leaves, all_slots, a.sides, epoch, out, 206);
-    write_list(old, o.leaves, old_slots, o.sides, epoch, out, next);
+    write_head(heads, epoch, &all.root(), &old.root(), out, 106);
+    let next = write_list(all, epoch, out, 206);
+    write_list(old, epoch, out, next);
     next
 }
 
@@ -65,18 +58,14 @@ fn root_before(s: &[u8], at: usize) -> [u8; 32]
 pub(crate) fn lay(
     heads: &[u8],
     epoch: u32,
-    all: &[u8],
-    all_slots: &[u8],
-    a: Grown,
-    old: &[u8],
-    old_slots: &[u8],
-    o: Grown,
+    all: &StoredTree<'_>,
+    old: &StoredTree<'_>,
     out: &mut [u8],
 )
-    requires { Step heads.now epoch × Kept all.now all_slots.now a old.now old_slots.now o × (length (bytes_with heads.now epoch (leaves_in a.leaves all.now) (leaves_in o.leaves old.now)) ≤ length out.old) }
-    ensures { out.new ≡ pasted out.old 0 (bytes_with heads.now epoch (leaves_in a.leaves all.now) (leaves_in o.leaves old.now)) }
+    requires { Step heads.now epoch × Listable all.now × Listable old.now × (length (bytes_with heads.now epoch (as_nodes all.now.leaves.now) (as_nodes old.now.leaves.now)) ≤ length out.old) }
+    ensures { out.new ≡ pasted out.old 0 (bytes_with heads.now epoch (as_nodes all.now.leaves.now) (as_nodes old.now.leaves.now)) }
 {
-    let next = lay_new(heads, epoch, all, all_slots, a, old, old_slots, o, out);
+    let next = lay_new(heads, epoch, all, old, out);
     let all_before = root_before(out, 206);
     let old_before = root_before(out, next);
     let opens = [0x56u8, 0x4B, 0x44, 0, 1, 3];

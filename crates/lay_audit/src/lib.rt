@@ -5,40 +5,39 @@
 mod lay;
 
 ghost use Rattle.std.specs.Prelude.{◌≡◌, true};
-ghost use Rattle.paper.specs.Level.{leaves_in};
+ghost use Rattle.leaf_row.specs.Row.{as_nodes};
 ghost use Rattle.tested.specs.Tested.{weighed};
-ghost use Rattle.lay_audit.specs.Audited.{bytes_with, Step, Kept};
+ghost use Rattle.lay_audit.specs.Audited.{bytes_with, Step, Listable};
 
-use forest::Grown;
 use lay::lay;
-use paper::{State, WriteAnswer};
+use paper::{Refusal, Returned, State, WriteAnswer, Written};
 use room::has_room;
 use subtrees::list_length;
+use tree::StoredTree;
 
 // A header of 6 bytes, two heads of 100, two counts of 4, and records of 99 bytes.
 pub fn lay_audit(
     heads: &[u8],
     state: State,
     epoch: u32,
-    all: &[u8],
-    all_slots: &[u8],
-    a: Grown,
-    old: &[u8],
-    old_slots: &[u8],
-    o: Grown,
+    all: &StoredTree<'_>,
+    old: &StoredTree<'_>,
     out: &mut [u8],
 ) -> WriteAnswer
-    requires { Step heads.now epoch × Kept all.now all_slots.now a old.now old_slots.now o }
-    ensures { record { answer = result; out = out.new } ≡ weighed state out.old true (bytes_with heads.now epoch (leaves_in a.leaves all.now) (leaves_in o.leaves old.now)) }
+    requires { Step heads.now epoch × Listable all.now × Listable old.now }
+    ensures { record { answer = result; out = out.new } ≡ weighed state out.old true (bytes_with heads.now epoch (as_nodes all.now.leaves.now) (as_nodes old.now.leaves.now)) }
 {
-    let first = list_length(all, a.leaves, epoch) * 99;
-    let second = list_length(old, o.leaves, epoch) * 99;
+    let first = list_length(all.leaves, epoch) * 99;
+    let second = list_length(old.leaves, epoch) * 99;
     if !has_room(out.len(), 214, first, second) {
-        return WriteAnswer::Refused { number: 8, state };
+        return Err(Returned {
+            refusal: Refusal::Room,
+            state,
+        });
     }
-    lay(heads, epoch, all, all_slots, a, old, old_slots, o, out);
-    WriteAnswer::Written {
+    lay(heads, epoch, all, old, out);
+    Ok(Written {
         length: 214 + first + second,
         state,
-    }
+    })
 }

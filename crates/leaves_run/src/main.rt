@@ -5,8 +5,8 @@
 
 ghost use Rattle.std.specs.Prelude.{◌≤◌};
 
-use std::io;
 use std::io::Write;
+use std::{array, io};
 
 // A line: a word, and bytes as hexadecimal digits.
 fn show<O: Write>(output: &mut O, word: &[u8], bytes: &[u8]) -> io::Result<()> {
@@ -26,11 +26,7 @@ fn show_number<O: Write>(output: &mut O, word: &[u8], n: u64) -> io::Result<()> 
 // Sample bytes: byte i is 37 part + 11 n + 7 i modulo 256.
 fn sample(part: u8, n: u8) -> [u8; 32] {
     let start = 37 * (part as usize) + 11 * (n as usize);
-    let mut bytes = [0u8; 32];
-    for i in 0..32 {
-        bytes[i] = ((start + 7 * i) % 256) as u8;
-    }
-    bytes
+    array::from_fn(|i| ((start + 7 * i) % 256) as u8)
 }
 
 // What holds a number of 32 bits: a leaf and a head.
@@ -56,25 +52,34 @@ fn number<O: Write>(output: &mut O, e: u32) -> io::Result<()> {
 }
 
 fn numbers<O: Write>(output: &mut O, bytes: &[u8; 9]) -> io::Result<()> {
-    show_number(output, b"read32 ", words::read32(bytes, 1) as u64)?;
-    show_number(output, b"read32 ", words::read32(bytes, 4) as u64)?;
-    show_number(output, b"read16 ", words::read16(bytes, 0) as u64)?;
-    show_number(output, b"read16 ", words::read16(bytes, 6) as u64)
+    for at in [1, 4] {
+        show_number(output, b"read32 ", words::read32(bytes, at) as u64)?;
+    }
+    for at in [0, 6] {
+        show_number(output, b"read16 ", words::read16(bytes, at) as u64)?;
+    }
+    Ok(())
 }
 
 fn epochs<O: Write>(output: &mut O) -> io::Result<()> {
-    epoch(output, 0, 0)?;
-    epoch(output, 1, 1)?;
-    epoch(output, 2, 2)?;
-    epoch(output, 3, 255)?;
-    epoch(output, 4, 256)?;
-    epoch(output, 5, 65_535)?;
-    epoch(output, 6, 65_536)?;
-    epoch(output, 7, 16_777_215)?;
-    epoch(output, 8, 16_777_216)?;
-    epoch(output, 9, 2_147_483_647)?;
-    epoch(output, 10, 2_147_483_648)?;
-    epoch(output, 11, 4_294_967_295)
+    let epochs = [
+        0,
+        1,
+        2,
+        255,
+        256,
+        65_535,
+        65_536,
+        16_777_215,
+        16_777_216,
+        2_147_483_647,
+        2_147_483_648,
+        4_294_967_295,
+    ];
+    for (n, e) in (0..12).zip(epochs) {
+        epoch(output, n, e)?;
+    }
+    Ok(())
 }
 
 // An inner node, and the two nodes above a child.
@@ -89,18 +94,11 @@ fn node<O: Write>(output: &mut O, n: u8, length: u16) -> io::Result<()> {
 
 fn nodes<O: Write>(output: &mut O) -> io::Result<()> {
     show(output, b"nothing ", &nodes::nothing())?;
-    node(output, 0, 0)?;
-    node(output, 1, 1)?;
-    node(output, 2, 7)?;
-    node(output, 3, 8)?;
-    node(output, 4, 127)?;
-    node(output, 5, 128)?;
-    node(output, 6, 254)?;
-    node(output, 7, 255)?;
-    node(output, 8, 256)?;
-    node(output, 9, 257)?;
-    node(output, 10, 32_768)?;
-    node(output, 11, 65_535)
+    let lengths = [0, 1, 7, 8, 127, 128, 254, 255, 256, 257, 32_768, 65_535];
+    for (n, length) in (0..12).zip(lengths) {
+        node(output, n, length)?;
+    }
+    Ok(())
 }
 
 // The label of a name of n bytes.
@@ -112,18 +110,22 @@ fn label<O: Write>(output: &mut O, kind: u8, number: u16, n: usize) -> io::Resul
 }
 
 fn labels<O: Write>(output: &mut O) -> io::Result<()> {
-    label(output, 1, 1, 1)?;
-    label(output, 1, 1, 64)?;
-    label(output, 1, 2, 51)?;
-    label(output, 1, 255, 52)?;
-    label(output, 1, 256, 59)?;
-    label(output, 1, 1_023, 60)?;
-    label(output, 1, 1_023, 64)?;
-    label(output, 2, 0, 1)?;
-    label(output, 2, 0, 64)?;
-    label(output, 2, 1, 2)?;
-    label(output, 2, 9, 63)?;
-    label(output, 2, 9, 64)
+    let versions = [
+        (1, 1),
+        (1, 64),
+        (2, 51),
+        (255, 52),
+        (256, 59),
+        (1_023, 60),
+        (1_023, 64),
+    ];
+    for (number, n) in versions {
+        label(output, 1, number, n)?;
+    }
+    for (number, n) in [(0, 1), (0, 64), (1, 2), (9, 63), (9, 64)] {
+        label(output, 2, number, n)?;
+    }
+    Ok(())
 }
 
 // The commitment to a key of n bytes, which are two samples.
@@ -141,18 +143,10 @@ fn commitment<O: Write>(output: &mut O, n: usize) -> io::Result<()>
 }
 
 fn commitments<O: Write>(output: &mut O) -> io::Result<()> {
-    commitment(output, 1)?;
-    commitment(output, 2)?;
-    commitment(output, 16)?;
-    commitment(output, 22)?;
-    commitment(output, 23)?;
-    commitment(output, 30)?;
-    commitment(output, 31)?;
-    commitment(output, 32)?;
-    commitment(output, 33)?;
-    commitment(output, 62)?;
-    commitment(output, 63)?;
-    commitment(output, 64)
+    for n in [1, 2, 16, 22, 23, 30, 31, 32, 33, 62, 63, 64] {
+        commitment(output, n)?;
+    }
+    Ok(())
 }
 
 // A copy to a place, and what stands at another.
@@ -171,26 +165,24 @@ fn compare<O: Write>(output: &mut O, a: &[u8], b: &[u8]) -> io::Result<()> {
 }
 
 fn comparisons<O: Write>(output: &mut O) -> io::Result<()> {
-    compare_letters(output)?;
-    compare_zeros(output)
-}
-
-fn compare_letters<O: Write>(output: &mut O) -> io::Result<()> {
-    compare(output, b"", b"")?;
-    compare(output, b"", b"a")?;
-    compare(output, b"a", b"")?;
-    compare(output, b"a", b"a")?;
-    compare(output, b"a", b"b")?;
-    compare(output, b"ab", b"a")?;
-    compare(output, b"ab", b"aa")?;
-    compare(output, b"ab", b"bb")
-}
-
-fn compare_zeros<O: Write>(output: &mut O) -> io::Result<()> {
-    compare(output, b"\x00", b"\x00\x00")?;
-    compare(output, b"\x00\x00", b"\x00\x01")?;
-    compare(output, b"\x00\x01", b"\x00\x01")?;
-    compare(output, b"\x01\x00", b"\x00\x00")
+    let pairs: [(&[u8], &[u8]); 12] = [
+        (b"", b""),
+        (b"", b"a"),
+        (b"a", b""),
+        (b"a", b"a"),
+        (b"a", b"b"),
+        (b"ab", b"a"),
+        (b"ab", b"aa"),
+        (b"ab", b"bb"),
+        (b"\x00", b"\x00\x00"),
+        (b"\x00\x00", b"\x00\x01"),
+        (b"\x00\x01", b"\x00\x01"),
+        (b"\x01\x00", b"\x00\x00"),
+    ];
+    for (a, b) in pairs {
+        compare(output, a, b)?;
+    }
+    Ok(())
 }
 
 fn main(rt: HostRuntime) -> io::Result<()> {
@@ -200,9 +192,8 @@ fn main(rt: HostRuntime) -> io::Result<()> {
     nodes(output)?;
     labels(output)?;
     commitments(output)?;
-    copy(output, 0, 0)?;
-    copy(output, 1, 0)?;
-    copy(output, 31, 32)?;
-    copy(output, 32, 17)?;
+    for (at, from) in [(0, 0), (1, 0), (31, 32), (32, 17)] {
+        copy(output, at, from)?;
+    }
     comparisons(output)
 }

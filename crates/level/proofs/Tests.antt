@@ -2,21 +2,22 @@
 use mathlib.Core.Path.{◌≡◌}
 use mathlib.Core.Bool.{Bool, true, false}
 use mathlib.Core.List.{[], ◌∷◌}
-use Prim.Native.Nat.{ℕ, ◌≤◌, ◌<◌}
+use Prim.Native.Nat.{◌≤◌, ◌<◌}
 use lib.ListN.{length}
 use borrow.Author.Tests.{le-leb, lt-leb}
 use Rattle.paper.specs.Numbers.{INPUT, CLASH, ROOM}
 use Rattle.paper.specs.Bytes.{Bytes, pasted}
 use Rattle.paper.specs.Verdict.{test, verdict}
 use Rattle.paper.specs.Level.{Laid, laid}
-use Rattle.paper.specs.declared.TreeAnswer.TheVariants as T
+use Rattle.paper.specs.declared.Refusal.{Refusal}
+use Rattle.std.proofs.Common.{Ok, Err}
 
 module _ (out s : Bytes) (input clear : Bool) where
   abbrev pub tested : Laid
   tested = laid out s (test INPUT input ∷ test CLASH clear ∷ [])
 
-  abbrev pub refused : ℕ → Laid
-  refused n = record { answer = T.Refused n; out = out }
+  abbrev pub refused : Refusal → Laid
+  refused n = record { answer = Err n; out = out }
 
   pub out-of-bounds : input ≡ false → tested ≡ refused INPUT
   unfolding laid verdict
@@ -30,7 +31,7 @@ module _ (out s : Bytes) (input clear : Bool) where
   unfolding laid verdict
   no_room e f h = rw (e, f, lt-leb (length s) (length out) h)
 
-  pub written : input ≡ true → clear ≡ true → length s ≤ length out → tested ≡ record { answer = T.Written (length s); out = pasted out 0 s }
+  pub written : input ≡ true → clear ≡ true → length s ≤ length out → tested ≡ record { answer = Ok (length s); out = pasted out 0 s }
   unfolding laid verdict
   written e f h = rw (e, f, le-leb (length s) (length out) h)
 

@@ -1,5 +1,5 @@
 -- The root over leaves in any order, and a label's path.
-use Rattle.std.specs.Prelude.{◌≡◌, Bool, true, not, ◌&&◌, List, [], ◌∷◌}
+use Rattle.std.specs.Prelude.{◌≡◌, Bool, true, false, Option, Some, None, not, ◌&&◌, List, [], ◌∷◌}
 use Rattle.paper.specs.Numbers.{CLASH}
 use Rattle.paper.specs.Bytes.{Bytes}
 use Rattle.paper.specs.Bits.{Bits}
@@ -10,12 +10,11 @@ use Rattle.paper.specs.Fields.{path_field}
 use Rattle.paper.specs.Verdict.{test}
 use Rattle.paper.specs.Table.{holds, distinct}
 use Rattle.paper.specs.Level.{Laid, laid}
-use Rattle.level.specs.declared.Rooted.{Rooted}
 
--- whether no two of the leaves share a label, and then their root
-pub record Roots (S : List Node) (r : Rooted) : Type 0 where
-  pub is : r.clear ≡ distinct S
-  pub root : r.clear ≡ true → r.root ≡ root_digest S
+-- the root over the leaves, where no two of them share a label
+abbrev pub Roots : List Node → Option Bytes → Type 0
+Roots S None = distinct S ≡ false
+Roots S (Some d) = (distinct S ≡ true) × (d ≡ root_digest S)
 
 -- "two leaves of a needed tree share a label, or a label to be shown absent is there": whether neither is so
 abbrev pub unclashed : List Node → Bits → Bool → Bool

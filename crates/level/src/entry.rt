@@ -1,17 +1,21 @@
 // The tree level's public entries: leaves one behind the other, in any order, are copied to a row of our own, so that what is lent
 // stays as it was.
-ghost use Rattle.std.specs.Prelude.{◌≡◌};
+ghost use Rattle.std.specs.Prelude.{◌≡◌, length};
 ghost use Rattle.paper.specs.Level as L;
+ghost use Rattle.paper.specs.Level.{entries_most};
 
 use crate::path::path_over;
 use crate::root::root_of;
 use bounds::entries_within;
-use paper::TreeAnswer;
+use leaf_row::Leaf;
+use paper::{Refusal, TreeAnswer};
 use ranges::put;
 
 // Room for 8,192 leaves.
-fn row() -> [u8; 557056] {
-    [0u8; 557056]
+fn row() -> [Leaf; 8192]
+    ensures { length result ≡ entries_most }
+{
+    [[0u8; 68]; 8192]
 }
 
 // The root over leaves, at the output's start.
@@ -19,21 +23,20 @@ pub fn tree_root(entries: &[u8], out: &mut [u8]) -> TreeAnswer
     ensures { record { answer = result; out = out.new } ≡ L.tree_root entries.now out.old }
 {
     if !entries_within(entries) {
-        return TreeAnswer::Refused(1);
+        return Err(Refusal::Input);
     }
-    let size = entries.len();
+    let (entries, _) = entries.as_chunks::<68>();
     let mut row = row();
-    put(&mut row, 0, entries);
-    let found = root_of(&mut row[..size], size / 68);
-    if !found.clear {
-        return TreeAnswer::Refused(7);
-    }
+    let leaves = &mut row[..entries.len()];
+    leaves.copy_from_slice(entries);
+    let Some(root) = root_of(leaves) else {
+        return Err(Refusal::Clash);
+    };
     if out.len() < 32 {
-        return TreeAnswer::Refused(8);
+        return Err(Refusal::Room);
     }
-    let root = found.root;
     put(out, 0, &root);
-    TreeAnswer::Written(32)
+    Ok(32)
 }
 
 // The path of a label over leaves, present or absent, at the output's start.
@@ -41,13 +44,14 @@ pub fn tree_path(entries: &[u8], label: &[u8], absent: bool, out: &mut [u8]) -> 
     ensures { record { answer = result; out = out.new } ≡ L.tree_path entries.now label.now absent out.old }
 {
     if !entries_within(entries) {
-        return TreeAnswer::Refused(1);
+        return Err(Refusal::Input);
     }
-    if label.len() != 32 {
-        return TreeAnswer::Refused(1);
-    }
-    let size = entries.len();
+    let Some(label) = label.as_array::<32>() else {
+        return Err(Refusal::Input);
+    };
+    let (entries, _) = entries.as_chunks::<68>();
     let mut row = row();
-    put(&mut row, 0, entries);
-    path_over(&mut row[..size], size / 68, label, absent, out)
+    let leaves = &mut row[..entries.len()];
+    leaves.copy_from_slice(entries);
+    path_over(leaves, label, absent, out)
 }

@@ -1,32 +1,32 @@
 // The root over leaves in any order: they are brought into bit order, and the tree is built over them once.
-ghost use Rattle.std.specs.Prelude.{◌≡◌, ◌*◌, ◌≤◌, length};
-ghost use Rattle.paper.specs.Level.{leaves_in, entries_most};
+ghost use Rattle.std.specs.Prelude.{◌≡◌, ◌≤◌, length};
+ghost use Rattle.paper.specs.Level.{entries_most};
+ghost use Rattle.leaf_row.specs.Row.{as_nodes, Sized};
 ghost use Rattle.level.specs.Rooted.{Roots};
 
-use crate::Rooted;
 use arrange::arrange;
-use tree::{root, store};
+use leaf_row::Leaf;
+use tree::{Children, StoredTree};
 
-// Room for the digests below the root, 64 bytes for each of 8,192 leaves.
-pub(crate) fn slots() -> [u8; 524288] {
-    [0u8; 524288]
+// Room for the slots of 8,192 leaves.
+pub(crate) fn slots() -> [Children; 8192]
+    ensures { length result ≡ entries_most }
+{
+    [Children {
+        left: [0u8; 32],
+        right: [0u8; 32],
+    }; 8192]
 }
 
-pub fn root_of(row: &mut [u8], n: usize) -> Rooted
-    requires { (length row.old ≡ n * 68) × (n ≤ entries_most) }
-    ensures { Roots (leaves_in n row.old) result }
+// The root over the leaves, where no two of them share a label.
+pub fn root_of(leaves: &mut [Leaf]) -> Option<[u8; 32]>
+    requires { Sized (as_nodes leaves.old) × (length leaves.old ≤ entries_most) }
+    ensures { Roots (as_nodes leaves.old) result }
 {
-    if !arrange(row, n) {
-        return Rooted {
-            clear: false,
-            root: [0u8; 32],
-        };
+    if !arrange(leaves) {
+        return None;
     }
     let mut slots = slots();
-    let size = n * 64;
-    let sides = store(row, n, &mut slots[..size]);
-    Rooted {
-        clear: true,
-        root: root(sides),
-    }
+    let n = leaves.len();
+    Some(StoredTree::store(leaves, &mut slots[..n]).root())
 }

@@ -10,11 +10,11 @@ use Rattle.paper.specs.Bytes.{Bytes}
 use Rattle.paper.specs.Labelling.{plain}
 use Rattle.paper.specs.Lookup.{check_lookup}
 use Rattle.paper.specs.Program.{line, program_line}
-use Rattle.paper.specs.declared.LookupAnswer.TheVariants.{Refused}
+use Rattle.std.specs.Prelude.{Err}
 use Rattle.ranges.proofs.Slices.{part-is, rest-is}
 
 -- too long, or too short for head and name
-pub input-refused : (b : Bytes) → (65536 < length b) ⊎ (length b < 33 + get_or b 32 0) → program_line b ≡ line (Refused INPUT)
+pub input-refused : (b : Bytes) → (65536 < length b) ⊎ (length b < 33 + get_or b 32 0) → program_line b ≡ line (Err INPUT)
 unfolding program_line
 input-refused b (inl h) = rw (lt-leb (length b) 65536 h)
 input-refused b (inr h) = rw (lt-leb (33 + get_or b 32 0) (length b) h, and-false)

@@ -5,8 +5,10 @@ use Prim.Native.Nat.{ℕ, ◌+◌, ◌≤◌}
 use native.Mathlib.Omega.{arith}
 use lib.ListN.{length, length-append}
 use Rattle.paper.specs.Bytes.{Bytes, zeros}
+use Rattle.paper.specs.Numbers.{refusal_number}
+use Rattle.paper.specs.declared.Refusal.{Refusal}
 use Rattle.paper.specs.Program.{decimal, version_word, epoch_word, digests_word, refused_word, line_end, accepted, line}
-use Rattle.paper.specs.declared.LookupAnswer.TheVariants.{Refused}
+use Rattle.std.specs.Prelude.{Err}
 use Rattle.paper.proofs.Pasted.{pasted-none, pasted-pasted, pasted-reach}
 use Rattle.line.specs.declared.Text.{Text}
 use Rattle.line.specs.Written.{empty, behind, text_of}
@@ -41,13 +43,14 @@ unfolding laid joined
 laid-joined t [] h = let n : t.length ≡ t.length + 0 = omega arith in rw (pasted-none t.bytes t.length, ← n)
 laid-joined t (x ∷ l) h = laid-joined (behind t x) l (pasted-reach t.bytes t.length x h) ∙ behind_more t x (joined l) h
 
-pub accepted-is : (v t n : ℕ) (a b c d e f : Text)
-    → a ≡ behind (text_of version_word) (decimal v) → b ≡ behind a epoch_word → c ≡ behind b (decimal t) → d ≡ behind c digests_word → e ≡ behind d (decimal n) → f ≡ behind e line_end
+pub accepted-is : (v t n : ℕ) (o a b c d e f : Text)
+    → o ≡ text_of version_word → a ≡ behind o (decimal v) → b ≡ behind a epoch_word → c ≡ behind b (decimal t) → d ≡ behind c digests_word → e ≡ behind d (decimal n) → f ≡ behind e line_end
     → f ≡ text_of (accepted v t n)
 unfolding laid joined
-accepted-is v t n a b c d e f e₁ e₂ e₃ e₄ e₅ e₆ =
-    rw (e₆, e₅, e₄, e₃, e₂, e₁) (laid-joined empty (version_word ∷ decimal v ∷ epoch_word ∷ decimal t ∷ digests_word ∷ decimal n ∷ line_end ∷ []) (omega arith))
+accepted-is v t n o a b c d e f e₀ e₁ e₂ e₃ e₄ e₅ e₆ =
+    rw (e₆, e₅, e₄, e₃, e₂, e₁, e₀) (laid-joined empty (version_word ∷ decimal v ∷ epoch_word ∷ decimal t ∷ digests_word ∷ decimal n ∷ line_end ∷ []) (omega arith))
 
-pub refused-is : (n : ℕ) (a b : Text) → a ≡ behind (text_of refused_word) (decimal n) → b ≡ behind a line_end → b ≡ text_of (line (Refused n))
+pub refused-is : (r : Refusal) (a b c : Text)
+    → a ≡ text_of refused_word → b ≡ behind a (decimal (refusal_number r)) → c ≡ behind b line_end → c ≡ text_of (line (Err r))
 unfolding laid joined
-refused-is n a b e₁ e₂ = rw (e₂, e₁) (laid-joined empty (refused_word ∷ decimal n ∷ line_end ∷ []) (omega arith))
+refused-is r a b c e₁ e₂ e₃ = rw (e₃, e₂, e₁) (laid-joined empty (refused_word ∷ decimal (refusal_number r) ∷ line_end ∷ []) (omega arith))

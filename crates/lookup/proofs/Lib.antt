@@ -1,3 +1,2 @@
--- Laws of the lookup check.
-pub mod Tested
-pub mod Checked
+-- Proofs of the lookup check.
+mod Checked

@@ -1,3 +1,2 @@
--- What the contracts of the lookup check say beside document 01's definitions.
-pub mod Walk
+-- What the contract of the accepted key says beside document 01's definitions.
 pub mod Part

@@ -2,7 +2,7 @@
 use Rattle.std.specs.Borrow.{Bor}
 use Rattle.paper.specs.Bytes.{Bytes}
 use Rattle.paper.specs.Lookup.{key_start, accepted_key}
-use Rattle.paper.specs.declared.LookupAnswer.{LookupAnswer}
+use Rattle.paper.specs.Answer.{LookupAnswer}
 use Rattle.ranges.specs.Part.{PartAt}
 
 -- "The accepted key of a lookup can be had as that part of the lent proof; a refusal or version 0 gives the empty part at its

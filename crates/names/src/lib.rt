@@ -8,13 +8,5 @@ ghost use Rattle.paper.specs.Fields.{is_name};
 pub fn is_name(name: &[u8]) -> bool
     ensures { result ≡ is_name name.now }
 {
-    if name.len() < 1 || 64 < name.len() {
-        return false;
-    }
-    for i in 0..name.len() {
-        if name[i] < 0x21 || 0x7E < name[i] {
-            return false;
-        }
-    }
-    true
+    (1..=64).contains(&name.len()) && name.iter().all(|b| (0x21..=0x7E).contains(b))
 }

@@ -8,7 +8,8 @@ use Rattle.paper.specs.Layout.{times_bytes, in_layout}
 use Rattle.paper.specs.Table.{Record, record_field, update_field}
 use Rattle.paper.specs.Publish.{new_record}
 use Rattle.record.specs.Places.{records_in}
-use Rattle.table.specs.Index.{Indexed}
+use Rattle.table.specs.Index.{Own}
+use Rattle.table.specs.declared.index.Index.{Index}
 use Rattle.batch.specs.Places.{update_at, updates_in}
 
 -- "An update has 162 bytes: a record without version and epoch.": the record's bytes, from the update's
@@ -29,8 +30,8 @@ while_numbered [] = []
 while_numbered (q ∷ l) = cond (numbered q) (q ∷ while_numbered l) []
 
 -- the table's records are indexed, and each update of the batch is in layout
-pub record Ready (records : Bytes) (count : ℕ) (first next : List ℕ) (batch : Bytes) : Type 0 where
-  pub index : Indexed records count first next
+pub record Ready (x : Index) (batch : Bytes) : Type 0 where
+  pub index : Own x
   pub formed : (i : ℕ) → suc i * update_size ≤ length batch → in_layout (update_field.read (drop (i * update_size) batch)) ≡ true
 
 -- whether the record that update i becomes has a version, and then its bytes are laid over place i; otherwise all is as before

@@ -6,7 +6,7 @@ ghost use Rattle.new_epoch.specs.Prepared.{record_over, Ready, Next, Prepared};
 
 use batch::name_in;
 use ranges::put;
-use table::last_version;
+use table::{Index, last_version};
 use words::{write16, write32};
 
 // Lays an update with its version and epoch over the new records, at a place.
@@ -21,20 +21,11 @@ fn lay(update: &[u8], version: u16, epoch: u32, fresh: &mut [u8], at: usize)
 }
 
 // "Each name takes its next version, from 1.": lays the record that update i becomes, unless its name is at 1,023 already.
-fn lay_next(
-    records: &[u8],
-    count: usize,
-    first: &[u16],
-    next: &[u16],
-    batch: &[u8],
-    i: usize,
-    epoch: u32,
-    fresh: &mut [u8],
-) -> bool
-    requires { Ready records.now count first.now next.now batch.now × Lies batch.now i × (suc i * 168 ≤ length fresh.old) }
-    ensures { Next records.now count batch.now i epoch fresh.old fresh.new result }
+fn lay_next(index: &Index, batch: &[u8], i: usize, epoch: u32, fresh: &mut [u8]) -> bool
+    requires { Ready index.now batch.now × Lies batch.now i × (suc i * 168 ≤ length fresh.old) }
+    ensures { Next index.now.records.now index.now.count batch.now i epoch fresh.old fresh.new result }
 {
-    let last = last_version(records, count, first, next, name_in(batch, i));
+    let last = last_version(index, name_in(batch, i));
     if 1023 <= last {
         return false;
     }
@@ -44,21 +35,13 @@ fn lay_next(
 }
 
 // The records that n updates become, at the start of `fresh`: whether no name is at 1,023 already. Those before such a name are laid.
-pub fn prepare(
-    records: &[u8],
-    count: usize,
-    first: &[u16],
-    next: &[u16],
-    batch: &[u8],
-    n: usize,
-    epoch: u32,
-    fresh: &mut [u8],
-) -> bool
-    requires { Ready records.now count first.now next.now batch.now × (length batch.now ≡ n * 162) × (n * 168 ≤ length fresh.old) }
-    ensures { Prepared records.now count epoch batch.now n fresh.old fresh.new result }
+pub fn prepare(index: &Index, batch: &[u8], n: usize, epoch: u32, fresh: &mut [u8]) -> bool
+    requires { Ready index.now batch.now × (length batch.now ≡ n * 162) × (n * 168 ≤ length fresh.old) }
+    ensures { Prepared index.now.records.now index.now.count epoch batch.now n fresh.old fresh.new result }
 {
+    // a `for`: `all` would be no plainer, since each turn writes `fresh`
     for i in 0..n {
-        if !lay_next(records, count, first, next, batch, i, epoch, fresh) {
+        if !lay_next(index, batch, i, epoch, fresh) {
             return false;
         }
     }

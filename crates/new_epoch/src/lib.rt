@@ -6,11 +6,4 @@ mod heading;
 mod plant;
 
 pub use fresh::prepare;
-pub use heading::{head_of, refused};
-
-// The number of a refusal, or 0 and the new epoch's head.
-#[derive(Clone, Copy)]
-pub struct Weighed {
-    pub number: u8,
-    pub head: [u8; 32],
-}
+pub use heading::head_of;

@@ -3,9 +3,7 @@ use mathlib.Core.Path.{◌≡◌, ap}
 use Rattle.paper.specs.Bytes.{Bytes}
 use Rattle.paper.specs.Publish as D
 use Rattle.paper.specs.Write as E
-use Rattle.paper.specs.declared.StartAnswer.{StartAnswer}
-use Rattle.paper.specs.declared.PublishAnswer.{PublishAnswer}
-use Rattle.paper.specs.declared.WriteAnswer.{WriteAnswer}
+use Rattle.paper.specs.Answer.{StartAnswer, PublishAnswer, WriteAnswer}
 use Rattle.results.specs.declared.Published.{Published}
 use Rattle.results.specs.declared.Written.{Written}
 use Rattle.results.specs.Results.{start_result, publish_result, write_result}

@@ -18,13 +18,13 @@ pub fn noonhaggle_check_lookup(head: &[u8], name: &[u8], proof: &[u8]) -> Lookup
 pub fn noonhaggle_check_history(head: &[u8], name: &[u8], proof: &[u8]) -> History
     ensures { result ≡ history_result (check_history plain head.now name.now proof.now) }
 {
-    results::history_result(history::check_history(head, name, proof))
+    history::check_history(head, name, proof).into()
 }
 
 pub fn noonhaggle_check_audit(old_head: &[u8], new_head: &[u8], proof: &[u8]) -> Audit
     ensures { result ≡ audit_result (check_audit old_head.now new_head.now proof.now) }
 {
-    results::audit_result(audit::check_audit(old_head, new_head, proof))
+    audit::check_audit(old_head, new_head, proof).into()
 }
 
 pub fn noonhaggle_sha256(bytes: &[u8]) -> Digest

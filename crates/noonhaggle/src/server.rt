@@ -6,12 +6,12 @@ ghost use Rattle.paper.specs.Write.{write_lookup, write_history, write_audit};
 ghost use Rattle.noonhaggle.specs.Left.{start_left, publish_left, write_left};
 
 use paper::State;
-use results::{Published, Written, write_result};
+use results::{Published, Written};
 
 pub fn noonhaggle_start(heads: &mut [u8]) -> Published
     ensures { record { result = result; heads = heads.new } ≡ start_left (P.start plain heads.old) }
 {
-    results::start_result(start::start(heads))
+    start::start(heads).into()
 }
 
 pub fn noonhaggle_publish(
@@ -23,7 +23,7 @@ pub fn noonhaggle_publish(
 ) -> Published
     ensures { record { result = result; records = records.new; heads = heads.new } ≡ publish_left (P.publish plain records.old heads.old (record { count = count; epoch = epoch }) batch.now) }
 {
-    results::publish_result(publish::publish(records, heads, State { count, epoch }, batch))
+    publish::publish(records, heads, State { count, epoch }, batch).into()
 }
 
 pub fn noonhaggle_write_lookup(
@@ -37,9 +37,10 @@ pub fn noonhaggle_write_lookup(
 ) -> Written
     ensures { record { result = result; out = out.new } ≡ write_left (write_lookup plain records.now heads.now (record { count = count; epoch = epoch }) out.old name.now at) }
 {
-    write_result(write_proof::write_lookup(records, heads, State { count, epoch }, name, at, out))
+    write_proof::write_lookup(records, heads, State { count, epoch }, name, at, out).into()
 }
 
+// Two names, two exports: the C interface has them so.
 pub fn noonhaggle_write_history(
     records: &[u8],
     heads: &[u8],
@@ -51,7 +52,7 @@ pub fn noonhaggle_write_history(
 ) -> Written
     ensures { record { result = result; out = out.new } ≡ write_left (write_history plain records.now heads.now (record { count = count; epoch = epoch }) out.old name.now at) }
 {
-    write_result(write_proof::write_history(records, heads, State { count, epoch }, name, at, out))
+    write_proof::write_history(records, heads, State { count, epoch }, name, at, out).into()
 }
 
 pub fn noonhaggle_write_audit(
@@ -64,5 +65,5 @@ pub fn noonhaggle_write_audit(
 ) -> Written
     ensures { record { result = result; out = out.new } ≡ write_left (write_audit plain records.now heads.now (record { count = count; epoch = epoch }) out.old at) }
 {
-    write_result(write_audit::write_audit(records, heads, State { count, epoch }, at, out))
+    write_audit::write_audit(records, heads, State { count, epoch }, at, out).into()
 }

@@ -1,5 +1,6 @@
 // A name's records by an epoch: "A lookup at epoch t answers the name's last version with epoch at most t, or version 0; a history
-// answers all its versions by then." The counted records are passed over one by one.
+// answers all its versions by then." The counted records are passed over one by one: the table is lent whole, and
+// "the state is the record count and the current epoch", so the count stands beside it.
 #![tactic(auto)]
 
 ghost use Rattle.std.specs.Prelude.{◌≡◌, ℕ, ◌<◌, length};
@@ -23,19 +24,18 @@ pub fn is_own(records: &[u8], i: usize, name: &[u8], epoch: u32) -> bool
     same(name_at(records, i), name)
 }
 
-// 1 + the number of the name's last record by the epoch, or 0.
-pub fn latest(records: &[u8], count: usize, name: &[u8], epoch: u32) -> usize
+// The number of the name's last record by the epoch.
+pub fn latest(records: &[u8], count: usize, name: &[u8], epoch: u32) -> Option<usize>
     requires { (i : ℕ) → i < count → Stands records.now i }
     ensures { result ≡ last_where (own_by records.now name.now epoch) count }
 {
-    let mut at = count;
-    while at != 0 {
-        if is_own(records, at - 1, name, epoch) {
-            return at;
+    // a `for`: over a range from its end the search leaves `find` open, and the library has a law of that for slices alone
+    for k in (0..count).rev() {
+        if is_own(records, k, name, epoch) {
+            return Some(k);
         }
-        at -= 1;
     }
-    0
+    None
 }
 
 // How many records the name has by the epoch.
@@ -43,15 +43,7 @@ pub fn versions_by(records: &[u8], count: usize, name: &[u8], epoch: u32) -> usi
     requires { (i : ℕ) → i < count → Stands records.now i }
     ensures { result ≡ length (versions_by plain name.now epoch (records_in count records.now)) }
 {
-    let mut n = 0;
-    let mut i = 0;
-    while i < count {
-        if is_own(records, i, name, epoch) {
-            n += 1;
-            i += 1;
-        } else {
-            i += 1;
-        }
-    }
-    n
+    (0..count)
+        .filter(|i| is_own(records, *i, name, epoch))
+        .count()
 }

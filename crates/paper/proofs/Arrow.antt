@@ -21,8 +21,7 @@ use Rattle.paper.specs.Lookup.{lookup_field, lookup_asked, lookup_keys, lookup_t
 use Rattle.paper.specs.History.{history_asked, history_terms, history_strings, check_history}
 use Rattle.paper.specs.Audit.{audit_field, audit_strings}
 use Rattle.paper.specs.Answer.{value_at, lookup_reply, lookup_number, history_number, answered_version, answered_epoch, history_epoch}
-use Rattle.paper.specs.declared.LookupAnswer.{LookupAnswer}
-use Rattle.paper.specs.declared.HistoryAnswer.{HistoryAnswer}
+use Rattle.paper.specs.Answer.{LookupAnswer, HistoryAnswer}
 use Rattle.paper.specs.Arrow.{Told, unregistered, told_at, told_by, told, last_told, current_at, AuditStep, Audited, lookup_hashed, history_hashed, audit_hashed, steps_hashed, hashed, Collision, Agrees}
 use Rattle.paper.proofs.Lists.{in-all, all_left, all_right, keep_append, keep_one, up_from-snoc}
 use Rattle.paper.proofs.Layouts.{bytes-parse}

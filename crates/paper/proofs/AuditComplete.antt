@@ -18,10 +18,11 @@ use Rattle.paper.specs.Strings.{version, marker}
 use Rattle.paper.specs.Labelling.{Labelling, Sized}
 use Rattle.paper.specs.Tree.{root}
 use Rattle.paper.specs.Layout.{fixed, seq, view}
-use Rattle.paper.specs.Audit.{Audit, audit_field, of_all, of_old, audit_input_tests, audit_tests, audit_strings, check_audit}
+use Rattle.paper.specs.Audit.{Audit, audit_field, audit_input_tests, audit_tests, audit_strings, check_audit}
+use Rattle.paper.specs.declared.Which.TheVariants.{OfAll, OfOld}
 use Rattle.paper.specs.Table.{Record, in_shape, follows, by_epoch, leaf_of, all_leaves, old_leaves, all_at, old_at, head_of, head_digest, head_at, previous_head, distinct}
 use Rattle.paper.specs.Write.{below_root, audit_proof}
-use Rattle.paper.specs.declared.AuditAnswer.TheVariants as A
+use Rattle.paper.specs.Answer.{audit_accepted}
 use Rattle.paper.proofs.Lists.{all_in, in-all, and_left, and_right, and_both, keep-in, keep-passes}
 use Rattle.paper.proofs.Bytes.{same_refl, eq-same}
 use Rattle.paper.proofs.Verdicts.{Hold}
@@ -87,19 +88,19 @@ module _ (lab : Labelling) (sized : Sized lab) (current old : ℕ) (rs : List Re
     leb-true _ t (all_in (λ q. leb q.epoch t ≡ true) (by_epoch t rs) (keep-passes (λ q. leb q.epoch t) rs) r m),
   ))
 
-  all-ruled : All (LeafRuled t of_all) (all_at lab t rs)
+  all-ruled : All (LeafRuled t OfAll) (all_at lab t rs)
   unfolding all_leaves
   all-ruled = all-flat _ (all_leaves lab) (by_epoch t rs) (in-all _ (by_epoch t rs) (λ r m. let (l, u) = all_in _ (by_epoch t rs) reached r m in ((l, u, refl), by r l u (eqb (2 ^ log2 r.version) r.version))))
     where
-      by : (r : Record) → 1 ≤ r.epoch → r.epoch ≤ t → (b : Bool) → All (LeafRuled t of_all) (cond b (leaf_of lab marker (log2 r.version) r.name (zeros wide) r.epoch ∷ []) [])
+      by : (r : Record) → 1 ≤ r.epoch → r.epoch ≤ t → (b : Bool) → All (LeafRuled t OfAll) (cond b (leaf_of lab marker (log2 r.version) r.name (zeros wide) r.epoch ∷ []) [])
       by r l u true = ((l, u, refl), tt)
       by r l u false = tt
 
-  old-ruled : All (LeafRuled t of_old) (old_at lab t rs)
+  old-ruled : All (LeafRuled t OfOld) (old_at lab t rs)
   unfolding old_leaves
   old-ruled = all-flat _ (old_leaves lab) (by_epoch t rs) (in-all _ (by_epoch t rs) (λ r m. let (l, u) = all_in _ (by_epoch t rs) reached r m in by r l u (ltb 1 r.version)))
     where
-      by : (r : Record) → 1 ≤ r.epoch → r.epoch ≤ t → (b : Bool) → All (LeafRuled t of_old) (cond b (leaf_of lab version (r.version - 1) r.name (zeros wide) r.epoch ∷ []) [])
+      by : (r : Record) → 1 ≤ r.epoch → r.epoch ≤ t → (b : Bool) → All (LeafRuled t OfOld) (cond b (leaf_of lab version (r.version - 1) r.name (zeros wide) r.epoch ∷ []) [])
       by r l u true = ((l, u, same_refl (zeros wide)), tt)
       by r l u false = tt
 
@@ -159,13 +160,13 @@ module _ (lab : Labelling) (sized : Sized lab) (current old : ℕ) (rs : List Re
             (
               and_both next (eq-same joined),
               (
-                and_both (list-order t (all_at lab t rs) all_set) (list-rules t (all_at lab t rs) all_set of_all old refl all-ruled),
+                and_both (list-order t (all_at lab t rs) all_set) (list-rules t (all_at lab t rs) all_set OfAll old refl all-ruled),
                 (
                   eq-same (root-before (all_leaves lab) (all-dated lab) old rs (all-at-sized lab sized t rs fits) d₁),
                   (
                     eq-same (list-new t (all_at lab t rs) all_set),
                     (
-                      and_both (list-order t (old_at lab t rs) old-set) (list-rules t (old_at lab t rs) old-set of_old old refl old-ruled),
+                      and_both (list-order t (old_at lab t rs) old-set) (list-rules t (old_at lab t rs) old-set OfOld old refl old-ruled),
                       (
                         eq-same (root-before (old_leaves lab) (old-dated lab) old rs (old-at-sized lab sized t rs fits) d₂),
                         (eq-same (list-new t (old_at lab t rs) old-set), tt),
@@ -180,8 +181,8 @@ module _ (lab : Labelling) (sized : Sized lab) (current old : ℕ) (rs : List Re
 
     -- "the audit into t is accepted between the heads of t-1 and t"
     pub audit-complete : check_audit (head_digest lab heads old rs) (head_digest lab heads t rs) (audit_field.bytes (audit_proof lab heads t rs))
-        ≡ A.Accepted old t (length (audit_strings (audit_proof lab heads t rs)))
+        ≡ audit_accepted old t (length (audit_strings (audit_proof lab heads t rs)))
     audit-complete =
         let input : Hold (audit_input_tests (head_digest lab heads old rs) (head_digest lab heads t rs)) = (and_both (eq-eqb _ wide (sha256-length _)) (eq-eqb _ wide (sha256-length _)), tt) in
-        subst (λ a. check_audit (head_digest lab heads old rs) (head_digest lab heads t rs) (audit_field.bytes a) ≡ A.Accepted old t (length (audit_strings a))) (sym audit-is)
+        subst (λ a. check_audit (head_digest lab heads old rs) (head_digest lab heads t rs) (audit_field.bytes a) ≡ audit_accepted old t (length (audit_strings a))) (sym audit-is)
         (audit-accept _ _ (audit_field.bytes audit) audit (parse-bytes audit-lawful audit audit-fits) input audit-holds)

@@ -15,7 +15,8 @@ use Rattle.paper.specs.Bits.{Bits, Pfx, starts, ◌▹◌}
 use Rattle.paper.specs.Strings.{Node, leaf, inner, nothing}
 use Rattle.paper.specs.Tree.{key, digest, Tree, empty, top, common, side, build, root, root_digest}
 use Rattle.paper.specs.Layout.{led, within, times}
-use Rattle.paper.specs.Audit.{AuditRecord, unchanged, opened, fresh, record_key, olds, news, in_order, Which, commitment_in, record_rule, audit_record_field, list_field}
+use Rattle.paper.specs.Audit.{AuditRecord, unchanged, opened, fresh, record_key, olds, news, in_order, commitment_in, record_rule, audit_record_field, list_field}
+use Rattle.paper.specs.declared.Which.{Which}
 use Rattle.paper.specs.Write.{has_new, subtrees, below_root}
 use Rattle.paper.proofs.Lists.{all_in, in-all, all_left, all_right, all_append, and_both, all-every, keep-in, in-keep, keep-passes, in_left, in_right}
 use Rattle.paper.proofs.Bits.{pfx-trans, pfx-length, length-snoc, pfx-one-way, starts-pfx}

@@ -9,7 +9,9 @@ use Rattle.paper.specs.Bytes.{Bytes}
 use Rattle.paper.specs.Bits.{Bits}
 use Rattle.paper.specs.Strings.{Head, head_string, commitment_string}
 use Rattle.paper.specs.Tree.{root_digest}
-use Rattle.paper.specs.Audit.{AuditRecord, olds, news, Which, of_all, of_old}
+use Rattle.paper.specs.Audit.{AuditRecord, olds, news}
+use Rattle.paper.specs.declared.Which.{Which}
+use Rattle.paper.specs.declared.Which.TheVariants.{OfAll, OfOld}
 use Rattle.paper.proofs.Walk.{Found, absent, present, World, Walk, walk-unique}
 use Rattle.paper.proofs.Step.{Listed, Next, same, added, audit-step}
 
@@ -30,8 +32,8 @@ pub opens-same : (F : Hashed) (d : Bytes) (o p : Head) → Opens F d o → Opens
 opens-same F d o p x y = F.head-inj o p x.inside y.inside (x.hash ∙ sym y.hash)
 
 abbrev pub root_in : Head → Which → Bytes
-root_in o of_all = o.all
-root_in o of_old = o.old
+root_in o OfAll = o.all
+root_in o OfOld = o.old
 
 -- what an accepted audit shows between two head digests
 pub record Stepped (F : Hashed) (d d' : Bytes) : Type 0 where

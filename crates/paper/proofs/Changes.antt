@@ -33,7 +33,7 @@ use Rattle.paper.specs.Answer.{reply, start_reply, start_number, publish_reply, 
 use Rattle.paper.specs.Effect.{record_at, SlotsHold, added, OnlyWithin, StartChanged, Changed, Fronted, WriteChanged, TreeChanged}
 use Rattle.paper.specs.declared.State.{State}
 use Rattle.paper.proofs.Lists.{and_left, and_right, all_append, all_right}
-use Rattle.paper.proofs.Verdicts.{Numbered, accepted}
+use Rattle.paper.proofs.Verdicts.{accepted}
 use Rattle.paper.proofs.Accepted.{whole-behind}
 use Rattle.paper.proofs.Pasted.{pasted_length, pasted-behind, pasted-other, part_at}
 use Rattle.paper.proofs.Kept.{record-length}
@@ -107,7 +107,7 @@ pub start-changes : (lab : Labelling) (heads : Bytes) → start_number (start la
 unfolding start heads_within head_at
 start-changes lab heads e =
     let d = head_digest lab heads 0 [] in
-    let (h, q) = accepted _ _ (λ (x : Started). start_number x.answer) (λ n. refl) (test INPUT (heads_within heads) ∷ []) (omega arith, tt) e in
+    let (h, q) = accepted _ _ (λ (x : Started). start_number x.answer) (λ n. refl) (test INPUT (heads_within heads) ∷ []) e in
     let n : 1 ≤ length heads / wide = leb-true 1 _ (and_left _ _ (and_right (eqb (length heads % wide) 0) _ h.0)) in
     let size : length d ≡ wide = sha256-length _ in
     let room : 0 + length d ≤ length heads = omega (arith, size, n) in
@@ -129,7 +129,7 @@ module _ (lab : Labelling) (records heads : Bytes) (state : State) (out : Bytes)
       → write_number (write_with lab records heads state out input t clear proof).answer ≡ 0 → WriteChanged records state out proof (write_with lab records heads state out input t clear proof)
   unfolding write_with counted
   write-changes input t clear proof e =
-      let (_, q) = accepted (unwritten lab records heads state out) _ (λ x. write_number x.answer) (λ n. refl) (test INPUT _ ∷ []) (omega arith, tt) e in
+      let (_, q) = accepted (unwritten lab records heads state out) _ (λ x. write_number x.answer) (λ n. refl) (test INPUT _ ∷ []) e in
       read (counted records state.count) refl q (ap (λ x. write_number x.answer) (sym q) ∙ e)
     where
       read : (m : Read (List Record)) → counted records state.count ≡ m → write_with lab records heads state out input t clear proof ≡ write_read lab records heads state out t clear proof m
@@ -137,7 +137,7 @@ module _ (lab : Labelling) (records heads : Bytes) (state : State) (out : Bytes)
       read bad p q z = absurd (omega arith)
       read (got rs (x ∷ r)) p q z = absurd (whole-behind ((times state.count record_field).read (take (state.count * record_size) records)) rs x r p)
       read (got rs []) p q z =
-          let (h, v) = accepted (unwritten lab records heads state out) _ (λ x. write_number x.answer) (λ n. refl) _ (omega arith, (omega arith, (omega arith, (omega arith, tt)))) z in
+          let (h, v) = accepted (unwritten lab records heads state out) _ (λ x. write_number x.answer) (λ n. refl) _ z in
           record {
             rs = rs;
             counted-records = p;
@@ -160,11 +160,11 @@ module _ (lab : Labelling) (records heads : Bytes) (state : State) (out : Bytes)
 
 -- ---- the tree level
 
-laid-changes : (out s : Bytes) (tests : List Test) → Numbered tests → tree_number (laid out s tests).answer ≡ 0 → TreeChanged out s (laid out s tests)
+laid-changes : (out s : Bytes) (tests : List Test) → tree_number (laid out s tests).answer ≡ 0 → TreeChanged out s (laid out s tests)
 unfolding laid
-laid-changes out s tests n e =
+laid-changes out s tests e =
     let room = test ROOM (leb (length s) (length out)) ∷ [] in
-    let (h, q) = accepted _ _ (λ (x : Laid). tree_number x.answer) (λ n. refl) (tests ++ room) (all_append _ tests room n (omega arith, tt)) e in
+    let (h, q) = accepted _ _ (λ (x : Laid). tree_number x.answer) (λ n. refl) (tests ++ room) e in
     record {
       says = ap (λ x. tree_reply x.answer) q;
       front = subst (λ o. Fronted s out o) (ap (λ x. x.out) (sym q)) (fronted out s (leb-true _ _ (all_right _ tests room h).0));
@@ -172,9 +172,9 @@ laid-changes out s tests n e =
 
 pub root-changes : (entries out : Bytes) → tree_number (tree_root entries out).answer ≡ 0 → TreeChanged out (root_digest (leaves_of entries)) (tree_root entries out)
 unfolding tree_root
-root-changes entries out = laid-changes out _ _ (omega arith, (omega arith, tt))
+root-changes entries out = laid-changes out _ _
 
 pub path-changes : (entries label : Bytes) (absent : Bool) (out : Bytes) → tree_number (tree_path entries label absent out).answer ≡ 0
     → TreeChanged out (path_field.bytes (way (bits_of label) (root (leaves_of entries)))) (tree_path entries label absent out)
 unfolding tree_path
-path-changes entries label absent out = laid-changes out _ _ (omega arith, (omega arith, tt))
+path-changes entries label absent out = laid-changes out _ _

@@ -5,7 +5,7 @@ use mathlib.Core.Logic.{inl, inr, ⊎_elim, ◌↔◌}
 use mathlib.Core.Bool.{Bool, false}
 use mathlib.Core.List.{List, [], ◌∷◌}
 use Prim.Native.Nat.{ℕ}
-use Rattle.paper.specs.Numbers.{INPUT, FORM}
+use Rattle.paper.specs.Numbers.{INPUT, FORM, refusal_number}
 use Rattle.paper.specs.Bytes.{Bytes, Bytewise}
 use Rattle.paper.specs.Layout.{Layout, Read, got, bad, parse}
 use Rattle.paper.specs.Verdict.{Test, test, Hold, FirstFails}
@@ -18,12 +18,12 @@ use Rattle.paper.proofs.Layouts.{Lawful, parse-bytes, bytes-parse, bad-parse}
 use Rattle.paper.proofs.Walk.{fails}
 use Rattle.paper.proofs.Reflect.{Tells}
 
--- tests and rules, one for one: the same number, and the test passes exactly where the rule holds
+-- tests and rules, one for one: the same refusal, and the test passes exactly where the rule holds
 abbrev pub Alike : List Test → List Rule → Type 0
 Alike [] [] = Unit {0}
 Alike [] (r ∷ rs) = ⊥
 Alike (t ∷ ts) [] = ⊥
-Alike (t ∷ ts) (r ∷ rs) = (t.number ≡ r.number) × Tells t.holds r.says × Alike ts rs
+Alike (t ∷ ts) (r ∷ rs) = (t.refusal ≡ r.refusal) × Tells t.holds r.says × Alike ts rs
 
 -- so the first test that fails is that of the first rule that is broken
 first-broken : (ts : List Test) (rs : List Rule) → Alike ts rs → (n : ℕ) → FirstFails ts n ↔ FirstBroken rs n
@@ -32,9 +32,9 @@ first-broken [] (r ∷ rs) a n = absurd a
 first-broken (t ∷ ts) [] a n = absurd a
 first-broken (t ∷ ts) (r ∷ rs) (q, s, a) n =
     let (to, from) = first-broken ts rs a n in (
-      λ f. ⊎_elim (λ (e, k). inl (sym q ∙ k, λ h. not-both (s.1 h) e)) (λ (e, g). inr (s.0 e, to g)) ((first-cons t ts n).0 f),
+      λ f. ⊎_elim (λ (e, k). inl (ap refusal_number (sym q) ∙ k, λ h. not-both (s.1 h) e)) (λ (e, g). inr (s.0 e, to g)) ((first-cons t ts n).0 f),
       ⊎_elim
-          (λ (k, h). (first-cons t ts n).1 (inl (fails t.holds (λ e. h (s.0 e)), q ∙ k)))
+          (λ (k, h). (first-cons t ts n).1 (inl (fails t.holds (λ e. h (s.0 e)), ap refusal_number q ∙ k)))
           (λ (h, g). (first-cons t ts n).1 (inr (s.1 h, from g))),
     )
 
@@ -59,7 +59,7 @@ module _ {A : Type 0} (field : Layout A) (lawful : Lawful field) (b : Bytes) (w 
         → FirstFails (test INPUT i ∷ reading FORM (parse field b) tests) n ↔ Refuses InBounds field rules b n
     checker-refuses rules alike n = (λ f. ⊎_elim input (λ (e, g). to (parse field b) refl (tells.0 e) g) ((first-cons _ _ n).0 f), from)
       where
-        input : (i ≡ false) × (INPUT ≡ n) → Refuses InBounds field rules b n
+        input : (i ≡ false) × (refusal_number INPUT ≡ n) → Refuses InBounds field rules b n
         input (e, q) = by-input (sym q) (λ h. not-both (tells.1 h) e)
 
         to : (m : Read A) → parse field b ≡ m → InBounds → FirstFails (reading FORM m tests) n → Refuses InBounds field rules b n
@@ -67,7 +67,7 @@ module _ {A : Type 0} (field : Layout A) (lawful : Lawful field) (b : Bytes) (w 
         to (got x r) o h f =
             ⊎_elim (λ (e, q). not-both refl e) (λ (e, g). by-rule h x (got-laid x r o) ((first-broken (tests x) (rules x) (alike x) n).0 g)) ((first-cons _ _ n).0 f)
 
-        unread : (m : Read A) → parse field b ≡ m → ((x : A) → ¬ LaidOut field x b) → FORM ≡ n → FirstFails (reading FORM m tests) n
+        unread : (m : Read A) → parse field b ≡ m → ((x : A) → ¬ LaidOut field x b) → refusal_number FORM ≡ n → FirstFails (reading FORM m tests) n
         unread bad o h q = (first-cons _ _ n).1 (inl (refl, q))
         unread (got x r) o h q = absurd (h x (got-laid x r o))
 

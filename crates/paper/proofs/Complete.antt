@@ -31,7 +31,7 @@ use Rattle.paper.proofs.Lists.{all_in, in-all, every-all, and_left, and_right, a
 use Rattle.paper.proofs.Bytes.{eq-same, same_refl}
 use Rattle.paper.proofs.Marker.{log2-spec}
 use Rattle.paper.proofs.Verdicts.{Hold}
-use Rattle.paper.specs.declared.HistoryAnswer.TheVariants as H
+use Rattle.paper.specs.Answer.{history_accepted}
 use Rattle.paper.proofs.Asked.{version-asked, Only, a-version, an-old, a-marker, not_there, asked-only}
 use Rattle.paper.proofs.Layouts.{parse-bytes}
 use Rattle.paper.proofs.Proofs.{lookup-lawful, history-lawful}
@@ -339,7 +339,7 @@ module _ (lab : Labelling) (sized : Sized lab) (name : Bytes) (t : ℕ) (rs : Li
 
       -- "every .. history .. is accepted at its epoch's head, with the directory's own answer"
       pub history-complete : is_name name ≡ true → unclashed lab name t rs plan ≡ true
-          → check_history lab (head_digest lab heads t rs) name (history_field.bytes chronicle) ≡ H.Accepted (length versions) t (length (history_strings lab name chronicle))
+          → check_history lab (head_digest lab heads t rs) name (history_field.bytes chronicle) ≡ history_accepted (length versions) t (length (history_strings lab name chronicle))
       unfolding proof_tests
       history-complete e u =
           let c = clear plan u in

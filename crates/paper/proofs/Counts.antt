@@ -16,7 +16,7 @@ use Rattle.paper.specs.Layout.{Read, got, bad, parse}
 use Rattle.paper.specs.Fields.{path_field}
 use Rattle.paper.specs.Shows.{Asked, Proof, kind_of, number_of, label_at, path_strings, proof_strings, proof_tests, input_tests}
 use Rattle.paper.specs.Lookup.{lookup_asked, lookup_keys, lookup_field, lookup_strings, lookup_read, lookup_gives, lookup_terms, check_lookup}
-use Rattle.paper.specs.declared.LookupAnswer.TheVariants.{Refused}
+use Rattle.std.specs.Prelude.{Err}
 use Rattle.paper.specs.Answer.{value_at, answered_digests}
 use Rattle.paper.proofs.Verdicts.{verdict-cases}
 use Rattle.paper.proofs.Accepted.{gives-reply}
@@ -80,7 +80,7 @@ module _ (lab : Labelling) (tied : Tied lab) (name : Bytes) where
   unfolding check_lookup
   lookup-counts d b w =
       ⊎_elim (λ (_, e). rw e (read (parse lookup_field b) refl)) (λ (n, _, e). rw e (omega arith))
-      (verdict-cases Refused (lookup_read lab name d (parse lookup_field b)) (input_tests d name))
+      (verdict-cases Err (lookup_read lab name d (parse lookup_field b)) (input_tests d name))
     where
       read : (m : Read Proof) → parse lookup_field b ≡ m → answered_digests (lookup_read lab name d m) ≤ 773 + 3 * tied.each
       read bad q = omega arith
@@ -90,7 +90,7 @@ module _ (lab : Labelling) (tied : Tied lab) (name : Bytes) where
           ⊎_elim
           (λ (_, e). rw (e, ap (value_at 2) (gives-reply lab name p.number p.head.epoch c)) (lookup-strings-most p f))
           (λ (n, _, e). rw e (omega arith))
-          (verdict-cases Refused (lookup_gives lab name p.number p.head.epoch c) (proof_tests lab name d (lookup_terms p) (lookup_asked p.number) p))
+          (verdict-cases Err (lookup_gives lab name p.number p.head.epoch c) (proof_tests lab name d (lookup_terms p) (lookup_asked p.number) p))
 
 -- "a lookup has at most 776"
 pub lookup-most : (d name b : Bytes) → Bytewise b → answered_digests (check_lookup plain d name b) ≤ 776

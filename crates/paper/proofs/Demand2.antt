@@ -18,8 +18,8 @@ use Rattle.paper.specs.Table.{Record, head_at, head_digest, last_version}
 use Rattle.paper.specs.Write.{versions_by, unclashed, lookup_proof, history_proof, audit_proof}
 use Rattle.paper.specs.Answer.{reply, lookup_reply, history_reply, audit_reply}
 use Rattle.paper.specs.declared.State.{State}
-use Rattle.paper.specs.declared.HistoryAnswer.TheVariants as H
-use Rattle.paper.specs.declared.AuditAnswer.TheVariants as A
+use Rattle.paper.specs.Answer.{history_accepted}
+use Rattle.paper.specs.Answer.{audit_accepted}
 use Rattle.paper.proofs.Accepted.{gives-reply}
 use Rattle.paper.proofs.Complete.{lookup-complete, history-complete}
 use Rattle.paper.proofs.AuditComplete.{audit-complete}
@@ -53,9 +53,9 @@ module _ (lab : Labelling) (sized : Sized lab) {records heads : Bytes} {state : 
     chronicle = history_proof lab name t rs heads
 
     module _ (u : unclashed lab name t rs (history_asked versions t) ≡ true) where
-      pub history-answered : check_history lab (head_at heads t) name (history_field.bytes chronicle) ≡ H.Accepted versions t (length (history_strings lab name chronicle))
+      pub history-answered : check_history lab (head_at heads t) name (history_field.bytes chronicle) ≡ history_accepted versions t (length (history_strings lab name chronicle))
       history-answered =
-          subst (λ d. check_history lab d name (history_field.bytes chronicle) ≡ H.Accepted versions t (length (history_strings lab name chronicle))) (sym (stands.head-is t k))
+          subst (λ d. check_history lab d name (history_field.bytes chronicle) ≡ history_accepted versions t (length (history_strings lab name chronicle))) (sym (stands.head-is t k))
           (history-complete lab sized name t rs stands.fits state.epoch stands.shape heads (omega (arith, stands.epochs)) (stands.previous t k) n u)
 
       pub history-accepted : history_reply (check_history lab (head_at heads t) name (history_field.bytes chronicle)) ≡ reply 0 (versions ∷ t ∷ length (history_strings lab name chronicle) ∷ [])
@@ -67,11 +67,11 @@ module _ (lab : Labelling) (sized : Sized lab) {records heads : Bytes} {state : 
     abbrev step : Audit
     step = audit_proof lab heads (suc t) rs
 
-    pub audit-answered : check_audit (head_at heads t) (head_at heads (suc t)) (audit_field.bytes step) ≡ A.Accepted t (suc t) (length (audit_strings step))
+    pub audit-answered : check_audit (head_at heads t) (head_at heads (suc t)) (audit_field.bytes step) ≡ audit_accepted t (suc t) (length (audit_strings step))
     audit-answered =
         let j : t ≤ state.epoch = omega arith in
-        subst (λ d. check_audit d (head_at heads (suc t)) (audit_field.bytes step) ≡ A.Accepted t (suc t) (length (audit_strings step))) (sym (stands.head-is t j))
-        (subst (λ d. check_audit (head_digest lab heads t rs) d (audit_field.bytes step) ≡ A.Accepted t (suc t) (length (audit_strings step))) (sym (stands.head-is (suc t) k))
+        subst (λ d. check_audit d (head_at heads (suc t)) (audit_field.bytes step) ≡ audit_accepted t (suc t) (length (audit_strings step))) (sym (stands.head-is t j))
+        (subst (λ d. check_audit (head_digest lab heads t rs) d (audit_field.bytes step) ≡ audit_accepted t (suc t) (length (audit_strings step))) (sym (stands.head-is (suc t) k))
         (audit-complete lab sized state.epoch t rs stands.fits stands.few stands.shape heads (omega (arith, stands.epochs)) (stands.previous t j) (stands.head-is t j)
         (stands.all-distinct (suc t) k) (stands.old-distinct (suc t) k)))
 

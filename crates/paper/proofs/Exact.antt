@@ -19,7 +19,9 @@ use Rattle.paper.specs.Verdict.{Hold}
 use Rattle.paper.specs.Shows.{Proof, input_tests}
 use Rattle.paper.specs.Lookup.{lookup_asked, lookup_keys, lookup_field, lookup_strings, check_lookup}
 use Rattle.paper.specs.History.{history_asked, history_field, history_strings, check_history}
-use Rattle.paper.specs.Audit.{AuditRecord, Audit, audit_field, olds, news, in_order, Which, of_all, of_old, record_rule, list_tests, audit_tests, audit_strings, check_audit}
+use Rattle.paper.specs.Audit.{AuditRecord, Audit, audit_field, olds, news, in_order, record_rule, list_tests, audit_tests, audit_strings, check_audit}
+use Rattle.paper.specs.declared.Which.{Which}
+use Rattle.paper.specs.declared.Which.TheVariants.{OfAll, OfOld}
 use Rattle.paper.specs.Answer.{reply, lookup_reply, lookup_number, history_reply, history_number, audit_reply, audit_number}
 use Rattle.paper.specs.Rules.{Bounds, HeadBounds, LaidOut, LookupRules, HistoryRules, Listed, ListRules, Joined, AuditRules, LookupMeets, HistoryMeets, AuditMeets}
 use Rattle.paper.specs.Broken.{lookup_in_order, history_in_order, audit_in_order, LookupRefuses, HistoryRefuses, AuditRefuses}
@@ -60,14 +62,14 @@ audit-alike d d' a = (
       joined-tells d a.before a.after,
       (
         refl,
-        listed-tells of_all _ _ a.all,
+        listed-tells OfAll _ _ a.all,
         (
           refl,
           same-tells _ _,
           (
             refl,
             same-tells _ _,
-            (refl, listed-tells of_old _ _ a.old, (refl, same-tells _ _, (refl, same-tells _ _, tt))),
+            (refl, listed-tells OfOld _ _ a.old, (refl, same-tells _ _, (refl, same-tells _ _, tt))),
           ),
         ),
       ),
@@ -90,8 +92,8 @@ audit-rules d d' a =
     let s = same-tells (sha256 (head_string a.before)) d in
     let s' = same-tells (sha256 (head_string a.after)) d' in
     let j = joined-tells d a.before a.after in
-    let x = list-rules of_all a.before.epoch a.after.epoch a.all a.before.all a.after.all in
-    let y = list-rules of_old a.before.epoch a.after.epoch a.old a.before.old a.after.old in (
+    let x = list-rules OfAll a.before.epoch a.after.epoch a.all a.before.all a.after.all in
+    let y = list-rules OfOld a.before.epoch a.after.epoch a.old a.before.old a.after.old in (
       λ (h, (h', (k, (r, (o, (n, q)))))). record { opens-old = s.0 h; opens-new = s'.0 h'; joined = j.0 k; all_list = x.0 (r, (o, (n, tt))); old-list = y.0 q },
       λ k.
           let (r, (o, (n, _))) = x.1 k.all_list in

@@ -22,7 +22,9 @@ use Rattle.paper.specs.Fields.{path_field}
 use Rattle.paper.specs.Shows.{Place, in_all, in_old, as_marker, Asked, present, missing, Item, Proof, label_at, epoch_at, commitment_at, proof_strings, proof_tests, path_strings, Terms}
 use Rattle.paper.specs.Lookup.{lookup_asked, lookup_keys, lookup_field, lookup_terms, lookup_strings, lookup_gives, check_lookup, accepted_key}
 use Rattle.paper.specs.History.{history_asked, history_terms, history_strings}
-use Rattle.paper.specs.Audit.{AuditRecord, unchanged, opened, fresh, Audit, audit_field, audit_record_field, record_of, olds, news, in_order, Which, of_all, of_old, record_rule, audit_tests, audit_strings, list_strings}
+use Rattle.paper.specs.Audit.{AuditRecord, unchanged, opened, fresh, Audit, audit_field, audit_record_field, record_of, olds, news, in_order, record_rule, audit_tests, audit_strings, list_strings}
+use Rattle.paper.specs.declared.Which.{Which}
+use Rattle.paper.specs.declared.Which.TheVariants.{OfAll, OfOld}
 use Rattle.paper.specs.Arrow.{told_at}
 use Rattle.paper.proofs.Lists.{and_left, and_right, all_left, all_right, all_map, all_get_d, every-all}
 use Rattle.paper.proofs.Bytes.{same-eq}
@@ -187,9 +189,9 @@ module _ (lab : Labelling) (sized : Sized lab) (name : Bytes) (U : List Bytes) (
 -- ---- audits
 
 -- one for *all*, one for *old*
-abbrev on : (P : Which → Type 0) → P of_all → P of_old → (w : Which) → P w
-on P x y of_all = x
-on P x y of_old = y
+abbrev on : (P : Which → Type 0) → P OfAll → P OfOld → (w : Which) → P w
+on P x y OfAll = x
+on P x y OfOld = y
 
 -- what the layout and the rules ask of one record
 record-ok : (w : Which) (old new : ℕ) (x : AuditRecord) → audit_record_field.Fits x → record_rule w old new x ≡ true → RecordOk new x
@@ -243,8 +245,8 @@ module _ (U : List Bytes) (f : OneToOne U) where
         next = eqb-true _ _ (and_left _ _ t.1.1.0);
         lists = on (λ w. List AuditRecord) a.all a.old;
         listed = on (λ w. Listed (hashed_in U f).trees a.after.epoch (on (λ w. List AuditRecord) a.all a.old w))
-            (listed of_all _ _ a.all ka t.1.1.1.0 ia)
-            (listed of_old _ _ a.old ko t.1.1.1.1.1.1.0 io);
+            (listed OfAll _ _ a.all ka t.1.1.1.0 ia)
+            (listed OfOld _ _ a.old ko t.1.1.1.1.1.1.0 io);
         builds-old = on (λ w. root_digest (olds (on (λ w. List AuditRecord) a.all a.old w)) ≡ root_in a.before w)
             (same-eq _ _ t.1.1.1.1.0)
             (same-eq _ _ t.1.1.1.1.1.1.1.0);

@@ -11,7 +11,8 @@ use Rattle.paper.specs.Layout.{block, fixed, within, seq, led, times, times_byte
 use Rattle.paper.specs.Fields.{head_field, path_field}
 use Rattle.paper.specs.Shows.{Item, item_field, Proof}
 use Rattle.paper.specs.Lookup.{lookup_field, accepted_key}
-use Rattle.paper.specs.declared.LookupAnswer.TheVariants.{Found}
+use Rattle.std.specs.Prelude.{Ok}
+use Rattle.paper.specs.declared.AcceptedLookup.TheVariants.{Found}
 use Rattle.paper.proofs.Bytes.{be-length, number-be}
 use Rattle.paper.proofs.Strings.{HeadSized}
 
@@ -50,7 +51,7 @@ unfolding times_bytes view seq led within block
 item-bytes x l = append_assoc (be 1 (length x.key) ++ x.key) x.opening (times_bytes item_field.bytes l) ∙ append_assoc (be 1 (length x.key)) x.key _
 
 -- the accepted key is the proof's key
-pub key-accepted : (p : Proof) (x : Item) (l : List Item) → HeadSized p.head → length x.key ≤ 64 → p.items ≡ x ∷ l → (v t c : ℕ) → accepted_key (Found v t c) (lookup_field.bytes p) ≡ x.key
+pub key-accepted : (p : Proof) (x : Item) (l : List Item) → HeadSized p.head → length x.key ≤ 64 → p.items ≡ x ∷ l → (v t c : ℕ) → accepted_key (Ok (Found v t c)) (lookup_field.bytes p) ≡ x.key
 unfolding behind
 key-accepted p x l s k e v t c =
     let b = lookup_field.bytes p in

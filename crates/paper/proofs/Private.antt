@@ -1,4 +1,5 @@
 -- "A lookup's version, epoch, key and opening depend only on that name's own records and the epoch asked". Assumes nothing.
+use Rattle.std.specs.Prelude.{Ok, Err}
 use mathlib.Core.Path.{◌≡◌, refl, sym, ap, ◌∙◌, subst}
 use mathlib.Core.Logic.{inl, inr}
 use mathlib.Core.Bool.{true, false≢true}
@@ -22,8 +23,7 @@ use Rattle.paper.specs.Table.{Record, counted, head_lies, by_epoch, own_records,
 use Rattle.paper.specs.Write.{Written, last_item, versions_by, paths_of, lookup_proof, write_lookup}
 use Rattle.paper.specs.Private.{Said, first_epoch, said_by, last_says, proof_left, Says}
 use Rattle.paper.specs.declared.State.{State}
-use Rattle.paper.specs.declared.WriteAnswer.{WriteAnswer}
-use Rattle.paper.specs.declared.WriteAnswer.TheVariants as W
+use Rattle.paper.specs.Answer.{WriteAnswer, written}
 use Rattle.paper.proofs.Lists.{all_in, in-all, all_take}
 use Rattle.paper.proofs.Layouts.{times-lawful, parse-bytes, bytes-parse}
 use Rattle.paper.proofs.Proofs.{lookup-lawful, record-lawful}
@@ -125,18 +125,18 @@ unfolding view seq fixed same
 none_left = refl
 
 -- and a refusal says nothing
-says-written : (w : Written) (x : Said) → Says w x → (n : ℕ) × (s : State) × (w.answer ≡ W.Written n s)
+says-written : (w : Written) (x : Said) → Says w x → (n : ℕ) × (s : State) × (w.answer ≡ written n s)
 says-written w x says = by w.answer refl
   where
-    by : (a : WriteAnswer) → w.answer ≡ a → (n : ℕ) × (s : State) × (w.answer ≡ W.Written n s)
-    by (W.Written n s) e = (n, s, e)
-    by (W.Refused n s) e =
+    by : (a : WriteAnswer) → w.answer ≡ a → (n : ℕ) × (s : State) × (w.answer ≡ written n s)
+    by (Ok a) e = (a.length, a.state, e)
+    by (Err r) e =
         let q : proof_left w.answer w.out ≡ [] = ap (λ a. proof_left a w.out) e in
         let z : ◌≡◌ {A = ℕ} 0 1 = cc none_left in absurd (omega arith)
 
 -- whatever else is in the tables, what the proof says is what the name's own records by the epoch say
 module _ (lab : Labelling) (sized : Sized lab) (records heads : Bytes) (records-bytes : Bytewise records) (heads-bytes : Bytewise heads) (state : State) (out name : Bytes) (t : ℕ) where
-  pub lookup-says : (rs : List Record) → counted records state.count ≡ got rs [] → (n : ℕ) (s : State) → (write_lookup lab records heads state out name t).answer ≡ W.Written n s
+  pub lookup-says : (rs : List Record) → counted records state.count ≡ got rs [] → (n : ℕ) (s : State) → (write_lookup lab records heads state out name t).answer ≡ written n s
       → Says (write_lookup lab records heads state out name t) (last_says (by_epoch t (own_records lab name rs)))
   unfolding counted times head_lies
   lookup-says rs read n s e =

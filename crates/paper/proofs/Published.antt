@@ -1,4 +1,5 @@
 -- What a successful publishing leaves is kept, and so is all that start and publishings left. Assumes nothing.
+use Rattle.std.specs.Prelude.{Ok, Err}
 use mathlib.Core.Path.{◌≡◌, refl, sym, ap, ◌∙◌, subst}
 use mathlib.Core.Logic.{⊎_elim, by_cases}
 use mathlib.Core.Bool.{true, ◌&&◌}
@@ -9,7 +10,7 @@ use native.Mathlib.Decide.{dec_le}
 use lib.ListN.{length, take, length-append}
 use Rattle.fips.specs.Sha256.{sha256}
 use Rattle.paper.specs.Lists.{All}
-use Rattle.paper.specs.Numbers.{wide, record_size}
+use Rattle.paper.specs.Numbers.{INPUT, wide, record_size}
 use Rattle.paper.specs.Bytes.{Bytes, Bytewise, pasted}
 use Rattle.paper.specs.Strings.{Node, head_string}
 use Rattle.paper.specs.Tree.{root_digest}
@@ -22,8 +23,8 @@ use Rattle.paper.specs.Effect.{added}
 use Rattle.paper.specs.Answer.{publish_number}
 use Rattle.paper.specs.Left.{Left, started, published}
 use Rattle.paper.specs.declared.State.{State}
-use Rattle.paper.specs.declared.StartAnswer.TheVariants as S
-use Rattle.paper.specs.declared.PublishAnswer.TheVariants as P
+use Rattle.paper.specs.Answer.{StartAnswer, PublishAnswer}
+use Rattle.paper.specs.declared.Refusal.{Refusal}
 use Rattle.paper.proofs.Lists.{all_in, in-all, all_append, all_take, and_left, and_right}
 use Rattle.paper.proofs.Verdicts.{Hold, FirstFails, verdict-cases}
 use Rattle.paper.proofs.Layouts.{times-lawful, parse-bytes, bytes-parse}
@@ -42,7 +43,7 @@ module _ (lab : Labelling) (records heads : Bytes) (state : State) (kept : Kept 
   next = suc state.epoch
 
   -- a success is one from the records that are kept
-  kept-success : (batch : Bytes) (s : State) → (publish lab records heads state batch).answer ≡ P.Published s → Success lab records heads state batch rs
+  kept-success : (batch : Bytes) (s : State) → (publish lab records heads state batch).answer ≡ Ok s → Success lab records heads state batch rs
   kept-success batch s e =
       let (l, q, x) = success lab records heads state batch (ap publish_number e) in
       let w : got l [] ≡ got rs [] = sym q ∙ kept.read in
@@ -151,35 +152,35 @@ unfolding times_bytes
 fields-bytes [] f = tt
 fields-bytes (r ∷ rs) f = all_append _ (record_field.bytes r) (times_bytes record_field.bytes rs) (record-bytewise r f.0) (fields-bytes rs f.1)
 
-start-kept : (lab : Labelling) (records heads : Bytes) (state : State) → Bytewise records → Bytewise heads → records_within records ≡ true → (start lab heads).answer ≡ S.Started state
+start-kept : (lab : Labelling) (records heads : Bytes) (state : State) → Bytewise records → Bytewise heads → records_within records ≡ true → (start lab heads).answer ≡ Ok state
     → Kept lab records (start lab heads).heads state
 unfolding start
-start-kept lab records heads state rb hb w e = ⊎_elim began refused (verdict-cases no_start begun (test 1 (heads_within heads) ∷ []))
+start-kept lab records heads state rb hb w e = ⊎_elim began refused (verdict-cases no_start begun (test INPUT (heads_within heads) ∷ []))
   where
-    no_start : ℕ → Started
-    no_start n = record { answer = S.Refused n; heads = heads }
+    no_start : Refusal → Started
+    no_start r = record { answer = Err r; heads = heads }
 
     begun : Started
-    begun = record { answer = S.Started (record { count = 0; epoch = 0 }); heads = pasted heads 0 (head_digest lab heads 0 []) }
+    begun = record { answer = Ok (record { count = 0; epoch = 0 }); heads = pasted heads 0 (head_digest lab heads 0 []) }
 
-    began : Hold (test 1 (heads_within heads) ∷ []) × (start lab heads ≡ begun) → Kept lab records (start lab heads).heads state
+    began : Hold (test INPUT (heads_within heads) ∷ []) × (start lab heads ≡ begun) → Kept lab records (start lab heads).heads state
     began (h, q) =
-        let z : S.Started (record { count = 0; epoch = 0 }) ≡ S.Started state = ap (λ x. x.answer) (sym q) ∙ e in
+        let z : ◌≡◌ {A = StartAnswer} (Ok (record { count = 0; epoch = 0 })) (Ok state) = ap (λ x. x.answer) (sym q) ∙ e in
         let s : record { count = 0; epoch = 0 } ≡ state = cc in
         subst (λ x. Kept lab records x.heads state) (sym q) (subst (Kept lab records _) s (kept-at-start lab records heads rb hb w h.0))
 
-    refused : (n : ℕ) × FirstFails (test 1 (heads_within heads) ∷ []) n × (start lab heads ≡ no_start n) → Kept lab records (start lab heads).heads state
-    refused (n, _, q) =
-        let z : S.Refused n ≡ S.Started state = ap (λ x. x.answer) (sym q) ∙ e in
+    refused : (n : ℕ) × (f : FirstFails (test INPUT (heads_within heads) ∷ []) n) × (start lab heads ≡ no_start f.failed.refusal) → Kept lab records (start lab heads).heads state
+    refused (n, f, q) =
+        let z : ◌≡◌ {A = StartAnswer} (Err f.failed.refusal) (Ok state) = ap (λ x. x.answer) (sym q) ∙ e in
         let y : ◌≡◌ {A = ℕ} 0 1 = cc in absurd (omega arith)
 
 -- a publishing that succeeds leaves what is kept
 publish-kept : (lab : Labelling) (records heads : Bytes) (state : State) → Kept lab records heads state → (batch : Bytes) → Bytewise batch → (s : State)
-    → (publish lab records heads state batch).answer ≡ P.Published s → Kept lab (publish lab records heads state batch).records (publish lab records heads state batch).heads s
+    → (publish lab records heads state batch).answer ≡ Ok s → Kept lab (publish lab records heads state batch).records (publish lab records heads state batch).heads s
 publish-kept lab records heads state k batch b s e =
     let x = kept-success lab records heads state k batch s e in
     let n = state.count + length (more lab records heads state k batch b x) in
-    let z : P.Published (record { count = n; epoch = suc state.epoch }) ≡ P.Published s = ap (λ y. y.answer) (sym x.leaves) ∙ e in
+    let z : ◌≡◌ {A = PublishAnswer} (Ok (record { count = n; epoch = suc state.epoch })) (Ok s) = ap (λ y. y.answer) (sym x.leaves) ∙ e in
     let q : record { count = n; epoch = suc state.epoch } ≡ s = cc in
     subst (λ y. Kept lab y.records y.heads s) (sym x.leaves) (subst (Kept lab _ _) q (kept-published lab records heads state k batch b x (fields-bytes _ (lie lab records heads state k batch b x).fit)))
 

@@ -14,7 +14,9 @@ use Rattle.paper.specs.Bytes.{Bytes, zeros, same}
 use Rattle.paper.specs.Bits.{Bits, Pfx, starts}
 use Rattle.paper.specs.Path.{End, this, other, off, none, same_bits, present_with, epoch_of, absent}
 use Rattle.paper.specs.Fields.{is_name}
-use Rattle.paper.specs.Audit.{AuditRecord, unchanged, opened, fresh, record_key, before?, in_order, Which, of_all, of_old, commitment_in, record_rule}
+use Rattle.paper.specs.Audit.{AuditRecord, unchanged, opened, fresh, record_key, before?, in_order, commitment_in, record_rule}
+use Rattle.paper.specs.declared.Which.{Which}
+use Rattle.paper.specs.declared.Which.TheVariants.{OfAll, OfOld}
 use Rattle.paper.specs.Rules.{NameBounds, AbsentEnd, Before, Pairs, CommitmentIn, RecordRules}
 use Rattle.paper.proofs.Lists.{and_left, and_right, and_both, not-both}
 use Rattle.paper.proofs.Bytes.{same-eq, eq-same}
@@ -86,8 +88,8 @@ absent-tells L k none = (λ _. tt, λ _. refl)
 -- ---- audit records
 
 commitment-tells : (w : Which) (c : Bytes) → Tells (commitment_in w c) (CommitmentIn w c)
-commitment-tells of_all c = (λ _. tt, λ _. refl)
-commitment-tells of_old c = same-tells c (zeros wide)
+commitment-tells OfAll c = (λ _. tt, λ _. refl)
+commitment-tells OfOld c = same-tells c (zeros wide)
 
 record-tells : (w : Which) (old new : ℕ) (x : AuditRecord) → Tells (record_rule w old new x) (RecordRules w old new x)
 record-tells w old new (unchanged m c e) =

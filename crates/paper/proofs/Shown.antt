@@ -15,7 +15,8 @@ use Rattle.paper.specs.Path as P
 use Rattle.paper.specs.Path.{End, this, other, off, none, Path, path_nodes, path_root, last_length, present_with, epoch_of}
 use Rattle.paper.specs.Fields.{path_field}
 use Rattle.paper.specs.Shows.{Place, in_all, in_old, as_marker, Asked, Terms, kind_of, number_of, root_at, label_at, meets, path_tests, path_strings}
-use Rattle.paper.specs.Audit.{Which, of_all, of_old}
+use Rattle.paper.specs.declared.Which.{Which}
+use Rattle.paper.specs.declared.Which.TheVariants.{OfAll, OfOld}
 use Rattle.paper.proofs.Lists.{all_left, all_right, all_in, in-all, and_left, and_right, not-both}
 use Rattle.paper.proofs.Bytes.{same-eq, bits_of-length}
 use Rattle.paper.proofs.Strings.{NodeSized}
@@ -32,9 +33,9 @@ abbrev pub Within : List Bytes → List Bytes → Type 0
 Within U = All (λ s. s ∈ U)
 
 abbrev pub which_of : Place → Which
-which_of (in_all i) = of_all
-which_of (in_old i) = of_old
-which_of (as_marker j) = of_all
+which_of (in_all i) = OfAll
+which_of (in_old i) = OfOld
+which_of (as_marker j) = OfAll
 
 root-of : (h : Head) (x : Place) → root_at h x ≡ root_in h (which_of x)
 root-of h (in_all i) = refl

@@ -11,7 +11,7 @@ use lib.ListN.{length, take, drop, length-map}
 use borrow.Author.Tests.{leb-true}
 use Rattle.fips.proofs.Size.{sha256-length}
 use Rattle.paper.specs.Lists.{All, every}
-use Rattle.paper.specs.Numbers.{wide, version_most, record_size, update_size, heads_most, INPUT, TABLE}
+use Rattle.paper.specs.Numbers.{wide, version_most, record_size, update_size, heads_most, INPUT, TABLE, refusal_number}
 use Rattle.paper.specs.Bytes.{Bytes, Bytewise, pasted}
 use Rattle.paper.specs.Strings.{head_string}
 use Rattle.paper.specs.Labelling.{Labelling}
@@ -22,8 +22,9 @@ use Rattle.paper.specs.Publish.{new_record, unpublished, appended, publish_tests
 use Rattle.paper.specs.Effect.{added}
 use Rattle.paper.specs.Answer.{publish_number}
 use Rattle.paper.specs.declared.State.{State}
+use Rattle.paper.specs.declared.Refusal.{Refusal}
 use Rattle.paper.proofs.Lists.{every-all, and_left, and_right}
-use Rattle.paper.proofs.Verdicts.{Hold, first-numbered, verdict-cases}
+use Rattle.paper.proofs.Verdicts.{Hold, refusal-positive, verdict-cases}
 use Rattle.paper.proofs.Accepted.{whole-behind}
 use Rattle.paper.proofs.Layouts.{times-lawful, bytes-parse}
 use Rattle.paper.proofs.Proofs.{update-lawful}
@@ -56,32 +57,32 @@ module _ (lab : Labelling) (records heads : Bytes) (state : State) where
   Succeeds batch = (rs : List Record) × (counted records state.count ≡ got rs []) × Success batch rs
 
   abbrev Refuses : Bytes → Type 0
-  Refuses batch = (n : ℕ) × (0 < n) × (publish lab records heads state batch ≡ unpublished lab records heads state n)
+  Refuses batch = (r : Refusal) × (publish lab records heads state batch ≡ unpublished lab records heads state r)
 
   pub outcome : (batch : Bytes) → Succeeds batch ⊎ Refuses batch
   unfolding publish counted
   outcome batch = ⊎_elim
       (λ (h, q). reading (and_left _ _ (and_right (records_within records) _ h.0)) (parse (times (length batch / update_size) update_field) batch) refl q)
-      (λ (n, f, q). inr (n, first-numbered _ (omega arith, tt) n f, q))
+      (λ (n, f, q). inr (f.failed.refusal, q))
       (verdict-cases (unpublished lab records heads state) (publish_batch lab records heads state (parse (times (length batch / update_size) update_field) batch)) (test INPUT (records_within records && (heads_within heads && batch_within batch)) ∷ []))
     where
       tabled : heads_within heads ≡ true → (us : List Update) → parse (times (length batch / update_size) update_field) batch ≡ got us []
           → (m : Read (List Record)) → counted records state.count ≡ m → publish lab records heads state batch ≡ publish_table lab records heads state us m → Succeeds batch ⊎ Refuses batch
-      tabled w us o bad p q = inr (TABLE, omega arith, q)
+      tabled w us o bad p q = inr (TABLE, q)
       tabled w us o (got rs (x ∷ r)) p q = absurd (whole-behind ((times state.count record_field).read (take (state.count * record_size) records)) rs x r p)
       tabled w us o (got rs []) p q = ⊎_elim
           (λ (h, v). inl (rs, p, record { us = us; read = o; heads-within = w; holds = h; leaves = q ∙ v }))
-          (λ (n, f, v). inr (n, first-numbered _ (omega arith, (omega arith, (omega arith, (omega arith, tt)))) n f, q ∙ v))
+          (λ (n, f, v). inr (f.failed.refusal, q ∙ v))
           (verdict-cases (unpublished lab records heads state) (appended lab records heads state rs (added lab state rs us)) (publish_tests lab records heads state rs us (added lab state rs us)))
 
       reading : heads_within heads ≡ true → (m : Read (List Update)) → parse (times (length batch / update_size) update_field) batch ≡ m → publish lab records heads state batch ≡ publish_batch lab records heads state m
           → Succeeds batch ⊎ Refuses batch
-      reading w bad o q = inr (INPUT, omega arith, q)
+      reading w bad o q = inr (INPUT, q)
       reading w (got us []) o q = tabled w us o (counted records state.count) refl q
       reading w (got us (x ∷ r)) o q = absurd (whole-behind ((times (length batch / update_size) update_field).read batch) us x r o)
 
   pub success : (batch : Bytes) → publish_number (publish lab records heads state batch).answer ≡ 0 → Succeeds batch
-  success batch e = ⊎_elim (λ w. w) (λ (n, k, q). let z : n ≡ 0 = ap (λ y. publish_number y.answer) (sym q) ∙ e in absurd (omega arith)) (outcome batch)
+  success batch e = ⊎_elim (λ w. w) (λ (r, q). let z : refusal_number r ≡ 0 = ap (λ y. publish_number y.answer) (sym q) ∙ e in absurd (omega (arith, refusal-positive r))) (outcome batch)
 
   -- ---- the bytes of a success
 

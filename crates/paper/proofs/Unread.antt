@@ -1,5 +1,6 @@
 -- What publishing and start do not read: records past the count, and heads other than the current one. Tables that are alike in all else
 -- give the same answer, and the same bytes are written into them. Stated once over the labelling. Assumes nothing.
+use Rattle.std.specs.Prelude.{Ok, Err}
 use mathlib.Core.Path.{◌≡◌, refl, sym, ap, ◌∙◌, subst}
 use mathlib.Core.Logic.{by_cases}
 use mathlib.Core.Bool.{true, ◌&&◌}
@@ -24,10 +25,8 @@ use Rattle.paper.specs.Table.{Record, Update, record_field, update_field, record
 use Rattle.paper.specs.Publish.{start, Published, unpublished, appended, publish_tests, publish_table, publish_batch, batch_within, publish}
 use Rattle.paper.specs.Effect.{Alike, SamePublished, publish_leaves, StartReads, start_leaves, added}
 use Rattle.paper.specs.declared.State.{State}
-use Rattle.paper.specs.declared.StartAnswer.{StartAnswer}
-use Rattle.paper.specs.declared.StartAnswer.TheVariants as S
-use Rattle.paper.specs.declared.PublishAnswer.{PublishAnswer}
-use Rattle.paper.specs.declared.PublishAnswer.TheVariants as P
+use Rattle.paper.specs.Answer.{StartAnswer, PublishAnswer, returned}
+use Rattle.paper.specs.declared.Refusal.{Refusal}
 use Rattle.paper.proofs.Lists.{all_take, and_left, and_right}
 use Rattle.paper.proofs.Verdicts.{Hold, verdict-alike}
 use Rattle.paper.proofs.Layouts.{times-lawful, bytes-parse}
@@ -72,10 +71,10 @@ module _ (lab : Labelling) (state : State) (records heads records' heads' : Byte
   abbrev Same : Published → Published → Type 0
   Same = SamePublished state records heads records' heads'
 
-  refused : (n : ℕ) → Same (unpublished lab records heads state n) (unpublished lab records' heads' state n)
-  refused n = record { answer = P.Refused n state; more = []; head = []; size = λ next e. no-success next e; one_left = refl; other-left = refl }
+  refused : (r : Refusal) → Same (unpublished lab records heads state r) (unpublished lab records' heads' state r)
+  refused r = record { answer = returned state r; more = []; head = []; size = λ next e. no-success next e; one_left = refl; other-left = refl }
     where
-      no-success : {A : Type 0} (next : State) → P.Refused n state ≡ P.Published next → A
+      no-success : {A : Type 0} (next : State) → ◌≡◌ {A = PublishAnswer} (returned state r) (Ok next) → A
       no-success next e = let z : ◌≡◌ {A = ℕ} 0 1 = cc in absurd (omega arith)
 
   -- the head's string has no other part of the head table than the current head
@@ -90,12 +89,12 @@ module _ (lab : Labelling) (state : State) (records heads records' heads' : Byte
   appended-same rs us f w h =
       let l : suc state.epoch * wide ≤ length heads = leb-true _ _ (and_left _ (in_shape lab state.epoch [] rs) h.0) in
       record {
-        answer = P.Published next;
+        answer = Ok next;
         more = bytes;
         head = head_digest lab heads (suc state.epoch) (rs ++ more);
         size = sizes;
         one_left = refl;
-        other-left = ap (λ d. publish_leaves state (P.Published next) bytes d records' heads') (head-same (rs ++ more) l);
+        other-left = ap (λ d. publish_leaves state (Ok next) bytes d records' heads') (head-same (rs ++ more) l);
       }
     where
       more : List Record
@@ -107,7 +106,7 @@ module _ (lab : Labelling) (state : State) (records heads records' heads' : Byte
       next : State
       next = record { count = state.count + length more; epoch = suc state.epoch }
 
-      sizes : (s : State) → P.Published next ≡ P.Published s → (state.count * record_size + length bytes ≡ s.count * record_size) × (length (head_digest lab heads (suc state.epoch) (rs ++ more)) ≡ wide)
+      sizes : (s : State) → ◌≡◌ {A = PublishAnswer} (Ok next) (Ok s) → (state.count * record_size + length bytes ≡ s.count * record_size) × (length (head_digest lab heads (suc state.epoch) (rs ++ more)) ≡ wide)
       sizes s e =
           let p = tested-placed lab records heads state rs us f w h in
           let q : next.count ≡ s.count = cc in
@@ -145,8 +144,8 @@ module _ (lab : Labelling) (state : State) (records heads records' heads' : Byte
       ap (λ y. y.answer) x.one_left ∙ told x.answer x.more x.head ∙ ap (λ y. y.answer) (sym x.other-left)
     where
       told : (a : PublishAnswer) (more head : Bytes) → (publish_leaves state a more head records heads).answer ≡ (publish_leaves state a more head records' heads').answer
-      told (P.Published next) more head = refl
-      told (P.Refused n given) more head = refl
+      told (Ok next) more head = refl
+      told (Err e) more head = refl
 
 -- ---- start
 
@@ -157,11 +156,11 @@ start-unread lab = record {
   answer = answer;
   head = head_digest lab [] 0 [];
   size = sha256-length _;
-  leaves = λ heads. verdict-alike (λ x a. x ≡ start_leaves a (head_digest lab [] 0 []) heads) _ _ S.Refused (S.Started none) (test INPUT (heads_within heads) ∷ []) (λ n. refl) (λ h. refl);
+  leaves = λ heads. verdict-alike (λ x a. x ≡ start_leaves a (head_digest lab [] 0 []) heads) _ _ Err (Ok none) (test INPUT (heads_within heads) ∷ []) (λ n. refl) (λ h. refl);
 }
   where
     none : State
     none = record { count = 0; epoch = 0 }
 
     answer : ℕ → StartAnswer
-    answer n = verdict S.Refused (S.Started none) (test INPUT (eqb (n % wide) 0 && (leb 1 (n / wide) && leb (n / wide) heads_most)) ∷ [])
+    answer n = verdict Err (Ok none) (test INPUT (eqb (n % wide) 0 && (leb 1 (n / wide) && leb (n / wide) heads_most)) ∷ [])

@@ -15,7 +15,8 @@ use Rattle.paper.specs.Layout.{got}
 use Rattle.paper.specs.Table.{Record, records_within, heads_within, counted, head_lies, in_shape}
 use Rattle.paper.specs.Write.{Written, Wrote, unwritten, write_read, write_with}
 use Rattle.paper.specs.declared.State.{State}
-use Rattle.paper.specs.declared.WriteAnswer.TheVariants as W
+use Rattle.paper.specs.Answer.{WriteAnswer, written, returned, value_at, write_reply}
+use Rattle.paper.specs.declared.Refusal.{Refusal}
 use Rattle.paper.proofs.Lists.{and_left, and_right}
 use Rattle.paper.proofs.Verdicts.{verdict-cases}
 
@@ -24,33 +25,33 @@ module _ (lab : Labelling) (records heads : Bytes) (state : State) (out : Bytes)
   left = write_with lab records heads state out input t clear proof
 
   -- the tests before the records are read, and those after
-  pub answered : (rs : List Record) → counted records state.count ≡ got rs [] → (n : ℕ) (s : State) → left.answer ≡ W.Written n s → Wrote lab records heads state out input t clear proof rs n
+  pub answered : (rs : List Record) → counted records state.count ≡ got rs [] → (n : ℕ) (s : State) → left.answer ≡ written n s → Wrote lab records heads state out input t clear proof rs n
   unfolding write_with pasted
   answered rs read n s e = ⊎_elim
       (λ (g, q). ⊎_elim
       (λ (k, v). done g.0 k.0 k.1.0 k.1.1.0 k.1.1.1.0 (q ∙ got_read ∙ v))
-      (λ (m, _, v). absurd (no m (q ∙ got_read ∙ v)))
+      (λ (_, f, v). absurd (no f.failed.refusal (q ∙ got_read ∙ v)))
       (verdict-cases (unwritten lab records heads state out) wrote _))
-      (λ (m, _, q). absurd (no m q))
+      (λ (_, f, q). absurd (no f.failed.refusal q))
       (verdict-cases (unwritten lab records heads state out) (write_read lab records heads state out t clear proof (counted records state.count)) _)
     where
       wrote : Written
-      wrote = record { answer = W.Written (length (proof rs)) state; out = pasted out 0 (proof rs) }
+      wrote = record { answer = written (length (proof rs)) state; out = pasted out 0 (proof rs) }
 
       got_read : write_read lab records heads state out t clear proof (counted records state.count) ≡ write_read lab records heads state out t clear proof (got rs [])
       got_read = ap (write_read lab records heads state out t clear proof) read
 
-      no : (m : ℕ) → left ≡ unwritten lab records heads state out m → ⊥
+      no : (m : Refusal) → left ≡ unwritten lab records heads state out m → ⊥
       no m q =
-          let a : W.Refused m state ≡ W.Written n s = ap (λ w. w.answer) (sym q) ∙ e in
+          let a : ◌≡◌ {A = WriteAnswer} (returned state m) (written n s) = ap (λ w. w.answer) (sym q) ∙ e in
           let z : ◌≡◌ {A = ℕ} 0 1 = cc in omega arith
 
       done : (records_within records && (heads_within heads && input)) ≡ true → (head_lies heads state.epoch && in_shape lab state.epoch [] rs) ≡ true
           → leb t state.epoch ≡ true → clear rs ≡ true → leb (length (proof rs)) (length out) ≡ true → left ≡ wrote
           → Wrote lab records heads state out input t clear proof rs n
       done g h k c l q =
-          let a : W.Written (length (proof rs)) state ≡ W.Written n s = ap (λ w. w.answer) (sym q) ∙ e in
-          let m : length (proof rs) ≡ n = cc in
+          let a : ◌≡◌ {A = WriteAnswer} (written (length (proof rs)) state) (written n s) = ap (λ w. w.answer) (sym q) ∙ e in
+          let m : length (proof rs) ≡ n = ap (λ w. value_at 2 (write_reply w)) a in
           let g' = and_right (records_within records) _ g in
           record {
             records-within = and_left _ _ g;

@@ -10,9 +10,7 @@ use Rattle.paper.specs.Shows.{Item, Proof, epoch_at}
 use Rattle.paper.specs.Lookup.{lookup_field, lookup_strings, accepted_key}
 use Rattle.paper.specs.History.{history_field, history_strings}
 use Rattle.paper.specs.Audit.{Audit, audit_field, audit_strings, check_audit}
-use Rattle.paper.specs.Answer.{audit_number, answered_version, answered_epoch, history_epoch}
-use Rattle.paper.specs.declared.LookupAnswer.{LookupAnswer}
-use Rattle.paper.specs.declared.HistoryAnswer.{HistoryAnswer}
+use Rattle.paper.specs.Answer.{LookupAnswer, HistoryAnswer, audit_number, answered_version, answered_epoch, history_epoch}
 
 -- a version as a history tells it; version 0 stands for "not registered"
 pub record Told : Type 0 where

@@ -1,5 +1,5 @@
 -- Document 01, "Audit".
-use Rattle.std.specs.Prelude.{Bool, true, false, ◌&&◌, List, [], ◌∷◌, ◌++◌, map, ℕ, zero, suc, leb, eqb, length}
+use Rattle.std.specs.Prelude.{Bool, true, false, ◌&&◌, List, [], ◌∷◌, ◌++◌, map, ℕ, zero, suc, Err, leb, eqb, length}
 use Rattle.fips.specs.Sha256.{sha256}
 use Rattle.paper.specs.Lists.{every}
 use Rattle.paper.specs.Numbers.{wide, audit_most, INPUT, FORM, HEAD, ROOT, RULE}
@@ -10,8 +10,9 @@ use Rattle.paper.specs.Tree.{nodes, root, root_digest}
 use Rattle.paper.specs.Layout.{Layout, Read, got, bad, fixed, within, seq, led, times, view, never, parse}
 use Rattle.paper.specs.Fields.{digest_field, epoch_field, label_field, prefix_field, head_field, opens}
 use Rattle.paper.specs.Verdict.{Test, test, verdict}
-use Rattle.paper.specs.declared.AuditAnswer.{AuditAnswer}
-use Rattle.paper.specs.declared.AuditAnswer.TheVariants.{Accepted, Refused}
+use Rattle.paper.specs.Answer.{AuditAnswer, audit_accepted}
+use Rattle.paper.specs.declared.Which.{Which}
+use Rattle.paper.specs.declared.Which.TheVariants.{OfAll, OfOld}
 
 -- "Kind 0 is an unchanged leaf, 1 an unchanged inner node (length 1 to 255), 2 a new leaf"
 pub data AuditRecord : Type 0 where
@@ -102,14 +103,10 @@ in_order [] = true
 in_order (x ∷ []) = true
 in_order (x ∷ y ∷ R) = before? (record_key x) (record_key y) && in_order (y ∷ R)
 
--- the tree that a list is for: "Leaves of *old* have a zero commitment."
-pub data Which : Type 0 where
-  of_all : Which
-  of_old : Which
-
+-- by the tree that a list is for: "Leaves of *old* have a zero commitment."
 abbrev pub commitment_in : Which → Bytes → Bool
-commitment_in of_all c = true
-commitment_in of_old c = same c (zeros wide)
+commitment_in OfAll c = true
+commitment_in OfOld c = same c (zeros wide)
 
 -- "new leaves bear the new epoch, unchanged leaves an epoch from 1 to the old one"
 abbrev pub record_rule : Which → ℕ → ℕ → AuditRecord → Bool
@@ -132,8 +129,8 @@ audit_tests d d' a =
     test HEAD (same (sha256 (head_string a.before)) d)
     ∷ test HEAD (same (sha256 (head_string a.after)) d')
     ∷ test RULE (eqb a.after.epoch (suc a.before.epoch) && same a.after.previous d)
-    ∷ (list_tests of_all a.before.epoch a.after.epoch a.all a.before.all a.after.all
-    ++ list_tests of_old a.before.epoch a.after.epoch a.old a.before.old a.after.old)
+    ∷ (list_tests OfAll a.before.epoch a.after.epoch a.all a.before.all a.after.all
+    ++ list_tests OfOld a.before.epoch a.after.epoch a.old a.before.old a.after.old)
 
 -- "An audit counts its two heads and, for each tree it lists, first for the old root and then for the new, each leaf, inner node,
 -- opened node and nothing that the rule builds, a nothing once for each empty side."
@@ -145,8 +142,8 @@ audit_strings a = head_string a.before ∷ head_string a.after ∷ (list_strings
 
 -- "an audit gives both epochs and its digests"
 abbrev pub audit_read : Bytes → Bytes → Read Audit → AuditAnswer
-audit_read d d' bad = Refused FORM
-audit_read d d' (got a r) = verdict Refused (Accepted a.before.epoch a.after.epoch (length (audit_strings a))) (audit_tests d d' a)
+audit_read d d' bad = Err FORM
+audit_read d d' (got a r) = verdict Err (audit_accepted a.before.epoch a.after.epoch (length (audit_strings a))) (audit_tests d d' a)
 
 -- "an argument breaks the bounds": heads of 32 bytes
 abbrev pub audit_input_tests : Bytes → Bytes → List Test
@@ -154,4 +151,4 @@ audit_input_tests d d' = test INPUT (eqb (length d) wide && eqb (length d') wide
 
 -- what the audit checker answers to two heads and proof bytes
 unfoldable pub check_audit : Bytes → Bytes → Bytes → AuditAnswer
-check_audit d d' b = verdict Refused (audit_read d d' (parse audit_field b)) (audit_input_tests d d')
+check_audit d d' b = verdict Err (audit_read d d' (parse audit_field b)) (audit_input_tests d d')

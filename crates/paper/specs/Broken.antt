@@ -2,7 +2,7 @@
 -- refusal with its cause: "each number .. given exactly when" the first rule that is broken has it.
 use Rattle.std.specs.Prelude.{◌≡◌, ◌⊎◌, Bool, true, false, List, [], ◌∷◌, ℕ, suc, ◌-◌, ◌^◌, ◌≤◌, ◌<◌}
 use Rattle.fips.specs.Sha256.{sha256}
-use Rattle.paper.specs.Numbers.{INPUT, FORM, HEAD, ROOT, RULE}
+use Rattle.paper.specs.Numbers.{INPUT, FORM, HEAD, ROOT, RULE, refusal_number}
 use Rattle.paper.specs.Bytes.{Bytes}
 use Rattle.paper.specs.Bits.{Bits}
 use Rattle.paper.specs.Strings.{Head, head_string}
@@ -13,21 +13,23 @@ use Rattle.paper.specs.Layout.{Layout}
 use Rattle.paper.specs.Shows.{Place, in_all, in_old, as_marker, Asked, Proof, root_at, epoch_at, label_at}
 use Rattle.paper.specs.Lookup.{lookup_asked, lookup_field, lookup_commitment}
 use Rattle.paper.specs.History.{history_asked, history_field, history_commitment}
-use Rattle.paper.specs.Audit.{Audit, audit_field, olds, news, of_all, of_old}
+use Rattle.paper.specs.Audit.{Audit, audit_field, olds, news}
+use Rattle.paper.specs.declared.Refusal.{Refusal}
+use Rattle.paper.specs.declared.Which.TheVariants.{OfAll, OfOld}
 use Rattle.paper.specs.Rules.{Bounds, HeadBounds, LaidOut, AbsentEnd, Listed, Joined}
 
--- a rule, and the number by which it is refused
+-- a rule, and the refusal that it is refused by
 pub record Rule : Type 1 where
-  pub number : ℕ
+  pub refusal : Refusal
   pub says : Type 0
 
-abbrev pub rule : ℕ → Type 0 → Rule
-rule n P = record { number = n; says = P }
+abbrev pub rule : Refusal → Type 0 → Rule
+rule r P = record { refusal = r; says = P }
 
 -- the first of the rules that is broken has the number n; those before it hold
 abbrev pub FirstBroken : List Rule → ℕ → Type 0
 FirstBroken [] n = ⊥
-FirstBroken (r ∷ rs) n = ((r.number ≡ n) × ¬ r.says) ⊎ (r.says × FirstBroken rs n)
+FirstBroken (r ∷ rs) n = ((refusal_number r.refusal ≡ n) × ¬ r.says) ⊎ (r.says × FirstBroken rs n)
 
 -- an end that shows a leaf with this commitment, at an epoch that obeys E; or that there is none
 abbrev pub ShownEnd : Bool → Bits → Bytes → (ℕ → Type 0) → Path → Type 0
@@ -72,10 +74,10 @@ audit_in_order d d' a =
     rule HEAD (sha256 (head_string a.before) ≡ d)
     ∷ rule HEAD (sha256 (head_string a.after) ≡ d')
     ∷ rule RULE (Joined d a.before a.after)
-    ∷ rule RULE (Listed of_all a.before.epoch a.after.epoch a.all)
+    ∷ rule RULE (Listed OfAll a.before.epoch a.after.epoch a.all)
     ∷ rule ROOT (root_digest (olds a.all) ≡ a.before.all)
     ∷ rule ROOT (root_digest (news a.all) ≡ a.after.all)
-    ∷ rule RULE (Listed of_old a.before.epoch a.after.epoch a.old)
+    ∷ rule RULE (Listed OfOld a.before.epoch a.after.epoch a.old)
     ∷ rule ROOT (root_digest (olds a.old) ≡ a.before.old)
     ∷ rule ROOT (root_digest (news a.old) ≡ a.after.old)
     ∷ []
@@ -85,8 +87,8 @@ audit_in_order d d' a =
 -- a checker's refusal by n, with its cause: 1, the arguments are out of bounds; or they are not, and, 2, no value has the layout; or one has
 -- it, and n is the number of the first of its rules that is broken
 pub data Refuses {A : Type 0} (InBounds : Type 0) (field : Layout A) (rules : A → List Rule) (b : Bytes) (n : ℕ) : Type 0 where
-  by-input : n ≡ INPUT → ¬ InBounds → Refuses InBounds field rules b n
-  by_form : n ≡ FORM → InBounds → ((x : A) → ¬ LaidOut field x b) → Refuses InBounds field rules b n
+  by-input : n ≡ refusal_number INPUT → ¬ InBounds → Refuses InBounds field rules b n
+  by_form : n ≡ refusal_number FORM → InBounds → ((x : A) → ¬ LaidOut field x b) → Refuses InBounds field rules b n
   by-rule : InBounds → (x : A) → LaidOut field x b → FirstBroken (rules x) n → Refuses InBounds field rules b n
 
 abbrev pub LookupRefuses : Labelling → Bytes → Bytes → Bytes → ℕ → Type 0

@@ -1,5 +1,5 @@
 -- What start, publishing, the writers and the tree level read and what they write: the words of proofs/Unread.antt and proofs/Changes.antt.
-use Rattle.std.specs.Prelude.{◌≡◌, ◌⊎◌, List, [], ◌∷◌, ◌++◌, map, ℕ, suc, ◌+◌, ◌*◌, ◌/◌, ◌≤◌, ◌<◌, length, take, drop, get_or}
+use Rattle.std.specs.Prelude.{◌≡◌, ◌⊎◌, List, [], ◌∷◌, ◌++◌, map, ℕ, suc, ◌+◌, ◌*◌, ◌/◌, ◌≤◌, ◌<◌, Ok, Err, length, take, drop, get_or}
 use Rattle.paper.specs.Numbers.{wide, record_size, update_size}
 use Rattle.paper.specs.Bytes.{Bytes, Bytewise, pasted}
 use Rattle.paper.specs.Labelling.{Labelling}
@@ -8,12 +8,8 @@ use Rattle.paper.specs.Table.{Record, Update, record_field, update_field, head_a
 use Rattle.paper.specs.Publish.{Started, start, Published, new_record, publish}
 use Rattle.paper.specs.Write.{Written}
 use Rattle.paper.specs.Level.{Laid}
-use Rattle.paper.specs.Answer.{reply, start_reply, publish_reply, state_values, write_reply, tree_reply}
+use Rattle.paper.specs.Answer.{StartAnswer, PublishAnswer, reply, start_reply, publish_reply, state_values, write_reply, tree_reply}
 use Rattle.paper.specs.declared.State.{State}
-use Rattle.paper.specs.declared.StartAnswer.{StartAnswer}
-use Rattle.paper.specs.declared.StartAnswer.TheVariants as S
-use Rattle.paper.specs.declared.PublishAnswer.{PublishAnswer}
-use Rattle.paper.specs.declared.PublishAnswer.TheVariants as P
 
 -- ---- what is read
 
@@ -30,12 +26,12 @@ pub record Alike (state : State) (records heads records' heads' : Bytes) : Type 
 -- what publishing leaves in these tables where it gives this answer and writes these bytes: on success the new records behind the
 -- counted ones and the new head in its slot, and all else as it was; on a refusal all as it was
 abbrev pub publish_leaves : State → PublishAnswer → Bytes → Bytes → Bytes → Bytes → Published
-publish_leaves state (P.Published next) more head records heads = record {
-  answer = P.Published next;
+publish_leaves state (Ok next) more head records heads = record {
+  answer = Ok next;
   records = pasted records (state.count * record_size) more;
   heads = pasted heads (suc state.epoch * wide) head;
 }
-publish_leaves state (P.Refused n given) more head records heads = record { answer = P.Refused n given; records = records; heads = heads }
+publish_leaves state (Err e) more head records heads = record { answer = Err e; records = records; heads = heads }
 
 -- what publishing leaves in the one pair of tables and in the other is one answer and the same bytes written: on success as many records
 -- as the count grows by, and one head
@@ -43,14 +39,14 @@ pub record SamePublished (state : State) (records heads records' heads' : Bytes)
   pub answer : PublishAnswer
   pub more : Bytes
   pub head : Bytes
-  pub size : (next : State) → answer ≡ P.Published next → (state.count * record_size + length more ≡ next.count * record_size) × (length head ≡ wide)
+  pub size : (next : State) → answer ≡ Ok next → (state.count * record_size + length more ≡ next.count * record_size) × (length head ≡ wide)
   pub one_left : one ≡ publish_leaves state answer more head records heads
   pub other-left : other ≡ publish_leaves state answer more head records' heads'
 
 -- what start leaves in this head table where it gives this answer and writes this head
 abbrev pub start_leaves : StartAnswer → Bytes → Bytes → Started
-start_leaves (S.Started state) head heads = record { answer = S.Started state; heads = pasted heads 0 head }
-start_leaves (S.Refused n) head heads = record { answer = S.Refused n; heads = heads }
+start_leaves (Ok state) head heads = record { answer = Ok state; heads = pasted heads 0 head }
+start_leaves (Err r) head heads = record { answer = Err r; heads = heads }
 
 -- start's answer goes by the table's length alone, and the head that it writes by nothing
 pub record StartReads (lab : Labelling) : Type 0 where

@@ -1,5 +1,5 @@
 -- Document 01, "History".
-use Rattle.std.specs.Prelude.{Bool, ◌&&◌, List, ◌∷◌, ◌++◌, map, ℕ, zero, suc, ◌-◌, ◌^◌, min, leb, ltb, eqb, length}
+use Rattle.std.specs.Prelude.{Bool, ◌&&◌, List, ◌∷◌, ◌++◌, map, ℕ, zero, suc, ◌-◌, ◌^◌, Err, min, leb, ltb, eqb, length}
 use Rattle.paper.specs.Lists.{up_from}
 use Rattle.paper.specs.Numbers.{wide, FORM}
 use Rattle.paper.specs.Bytes.{Bytes, zeros}
@@ -8,8 +8,7 @@ use Rattle.paper.specs.Labelling.{Labelling}
 use Rattle.paper.specs.Layout.{Layout, Read, got, bad, parse}
 use Rattle.paper.specs.Verdict.{verdict}
 use Rattle.paper.specs.Shows.{Place, in_all, in_old, as_marker, Asked, present, missing, Proof, proof_field, Terms, epoch_at, commitment_at, proof_tests, proof_strings, input_tests}
-use Rattle.paper.specs.declared.HistoryAnswer.{HistoryAnswer}
-use Rattle.paper.specs.declared.HistoryAnswer.TheVariants.{Accepted, Refused}
+use Rattle.paper.specs.Answer.{HistoryAnswer, history_accepted}
 
 -- how many markers there can be by epoch T: those from 0 to min(9, floor(log2 T)). "For T = 0: no markers are asked absent."
 abbrev pub markers_by : ℕ → ℕ
@@ -59,11 +58,11 @@ module _ (lab : Labelling) (name : Bytes) where
 
   -- "a history its n, each with the head's epoch and its digests"
   abbrev pub history_read : Bytes → Read Proof → HistoryAnswer
-  history_read d bad = Refused FORM
+  history_read d bad = Err FORM
   history_read d (got p r) =
-      verdict Refused (Accepted p.number p.head.epoch (length (history_strings p)))
+      verdict Err (history_accepted p.number p.head.epoch (length (history_strings p)))
       (proof_tests lab name d (history_terms p) (history_asked p.number p.head.epoch) p)
 
 -- what the history checker answers to a head, a name and proof bytes
 unfoldable pub check_history : Labelling → Bytes → Bytes → Bytes → HistoryAnswer
-check_history lab d name b = verdict Refused (history_read lab name d (parse history_field b)) (input_tests d name)
+check_history lab d name b = verdict Err (history_read lab name d (parse history_field b)) (input_tests d name)

@@ -1,6 +1,6 @@
 -- "CLASH is tried at the tree level, which takes labels directly.": leaves one behind the other in any order, the root over them, and
 -- the path of a label.
-use Rattle.std.specs.Prelude.{Bool, true, not, ◌&&◌, List, [], ◌∷◌, ◌++◌, ℕ, zero, suc, ◌*◌, ◌/◌, ◌%◌, eqb, leb, length, take, drop}
+use Rattle.std.specs.Prelude.{Bool, true, not, ◌&&◌, List, [], ◌∷◌, ◌++◌, ℕ, zero, suc, ◌*◌, ◌/◌, ◌%◌, Ok, Err, eqb, leb, length, take, drop}
 use Rattle.paper.specs.Numbers.{wide, records_most, INPUT, CLASH, ROOM}
 use Rattle.paper.specs.Bytes.{Bytes, number, pasted}
 use Rattle.paper.specs.Bits.{bits_of}
@@ -11,8 +11,7 @@ use Rattle.paper.specs.Fields.{path_field}
 use Rattle.paper.specs.Verdict.{Test, test, verdict}
 use Rattle.paper.specs.Audit.{before?}
 use Rattle.paper.specs.Table.{holds, distinct}
-use Rattle.paper.specs.declared.TreeAnswer.{TreeAnswer}
-use Rattle.paper.specs.declared.TreeAnswer.TheVariants as T
+use Rattle.paper.specs.Answer.{TreeAnswer}
 
 -- "label 32, commitment 32, epoch 4", as in a leaf's string
 abbrev pub entry_size : ℕ
@@ -44,8 +43,8 @@ pub record Laid : Type 0 where
 -- "A refusal writes nothing"; success writes these bytes at the output's start and answers their length
 unfoldable pub laid : Bytes → Bytes → List Test → Laid
 laid out s tests =
-    verdict (λ n. record { answer = T.Refused n; out = out })
-    (record { answer = T.Written (length s); out = pasted out 0 s })
+    verdict (λ r. record { answer = Err r; out = out })
+    (record { answer = Ok (length s); out = pasted out 0 s })
     (tests ++ (test ROOM (leb (length s) (length out)) ∷ []))
 
 unfoldable pub entries_within : Bytes → Bool

@@ -1,5 +1,5 @@
 -- Document 01, "Lookup".
-use Rattle.std.specs.Prelude.{Bool, true, ◌&&◌, List, [], ◌∷◌, ℕ, zero, suc, ◌^◌, leb, length, take, drop}
+use Rattle.std.specs.Prelude.{Bool, true, ◌&&◌, List, [], ◌∷◌, ℕ, zero, suc, ◌^◌, Ok, Err, leb, length, take, drop}
 use Rattle.paper.specs.Numbers.{wide, FORM}
 use Rattle.paper.specs.Bytes.{Bytes, zeros, number}
 use Rattle.paper.specs.Bits.{log2}
@@ -7,8 +7,8 @@ use Rattle.paper.specs.Labelling.{Labelling}
 use Rattle.paper.specs.Layout.{Layout, Read, got, bad, parse}
 use Rattle.paper.specs.Verdict.{verdict}
 use Rattle.paper.specs.Shows.{Place, in_all, in_old, as_marker, Asked, present, missing, Proof, proof_field, Terms, epoch_at, commitment_at, proof_tests, proof_strings, input_tests}
-use Rattle.paper.specs.declared.LookupAnswer.{LookupAnswer}
-use Rattle.paper.specs.declared.LookupAnswer.TheVariants.{Found, NotRegistered, Refused}
+use Rattle.paper.specs.Answer.{LookupAnswer}
+use Rattle.paper.specs.declared.AcceptedLookup.TheVariants.{Found, NotRegistered}
 
 -- "If 0: one path, version 1 absent from *all*. Otherwise .. paths: version v present in *all*, v absent from *old*, marker
 -- floor(log2 v) present in *all*."
@@ -47,29 +47,29 @@ module _ (lab : Labelling) (name : Bytes) where
 
   -- "An accepted lookup gives its version, .. with the head's epoch and its digests"
   abbrev pub lookup_gives : ℕ → ℕ → ℕ → LookupAnswer
-  lookup_gives zero t digests = NotRegistered t digests
-  lookup_gives (suc v) t digests = Found (suc v) t digests
+  lookup_gives zero t digests = Ok (NotRegistered t digests)
+  lookup_gives (suc v) t digests = Ok (Found (suc v) t digests)
 
   abbrev pub lookup_read : Bytes → Read Proof → LookupAnswer
-  lookup_read d bad = Refused FORM
+  lookup_read d bad = Err FORM
   lookup_read d (got p r) =
-      verdict Refused (lookup_gives p.number p.head.epoch (length (lookup_strings p))) (proof_tests lab name d (lookup_terms p) (lookup_asked p.number) p)
+      verdict Err (lookup_gives p.number p.head.epoch (length (lookup_strings p))) (proof_tests lab name d (lookup_terms p) (lookup_asked p.number) p)
 
 -- what the lookup checker answers to a head, a name and proof bytes
 unfoldable pub check_lookup : Labelling → Bytes → Bytes → Bytes → LookupAnswer
-check_lookup lab d name b = verdict Refused (lookup_read lab name d (parse lookup_field b)) (input_tests d name)
+check_lookup lab d name b = verdict Err (lookup_read lab name d (parse lookup_field b)) (input_tests d name)
 
 -- "The accepted key of a lookup can be had as that part of the lent proof; a refusal or version 0 gives the empty part at its
 -- start.": where it starts, and how long it is
 abbrev pub key_start : LookupAnswer → ℕ
-key_start (Found v t c) = 109
-key_start (NotRegistered t c) = 0
-key_start (Refused n) = 0
+key_start (Ok (Found v t c)) = 109
+key_start (Ok (NotRegistered t c)) = 0
+key_start (Err r) = 0
 
 abbrev pub key_length : LookupAnswer → Bytes → ℕ
-key_length (Found v t c) b = number (take 1 (drop 108 b))
-key_length (NotRegistered t c) b = 0
-key_length (Refused n) b = 0
+key_length (Ok (Found v t c)) b = number (take 1 (drop 108 b))
+key_length (Ok (NotRegistered t c)) b = 0
+key_length (Err r) b = 0
 
 abbrev pub accepted_key : LookupAnswer → Bytes → Bytes
 accepted_key a b = take (key_length a b) (drop (key_start a) b)

@@ -1,5 +1,7 @@
 -- Document 01, "Numbers" and "Numbers that say no".
 use Rattle.std.specs.Prelude.{ℕ, ◌-◌, ◌^◌}
+use Rattle.paper.specs.declared.Refusal.{Refusal}
+use Rattle.paper.specs.declared.Refusal.TheVariants as R
 
 -- "name | 1 to 64 bytes, each 0x21 to 0x7E"
 abbrev pub name_most : ℕ
@@ -51,35 +53,49 @@ abbrev pub audit_most : ℕ
 audit_most = 16384
 
 -- "Numbers that say no", each by its name
-abbrev pub INPUT : ℕ
-INPUT = 1
+abbrev pub INPUT : Refusal
+INPUT = R.Input
 
-abbrev pub FORM : ℕ
-FORM = 2
+abbrev pub FORM : Refusal
+FORM = R.Form
 
-abbrev pub HEAD : ℕ
-HEAD = 3
+abbrev pub HEAD : Refusal
+HEAD = R.Head
 
-abbrev pub ROOT : ℕ
-ROOT = 4
+abbrev pub ROOT : Refusal
+ROOT = R.Root
 
-abbrev pub RULE : ℕ
-RULE = 5
+abbrev pub RULE : Refusal
+RULE = R.Rule
 
-abbrev pub FULL : ℕ
-FULL = 6
+abbrev pub FULL : Refusal
+FULL = R.Full
 
-abbrev pub CLASH : ℕ
-CLASH = 7
+abbrev pub CLASH : Refusal
+CLASH = R.Clash
 
-abbrev pub ROOM : ℕ
-ROOM = 8
+abbrev pub ROOM : Refusal
+ROOM = R.Room
 
-abbrev pub TWICE : ℕ
-TWICE = 9
+abbrev pub TWICE : Refusal
+TWICE = R.Twice
 
-abbrev pub EPOCH : ℕ
-EPOCH = 10
+abbrev pub EPOCH : Refusal
+EPOCH = R.Epoch
 
-abbrev pub TABLE : ℕ
-TABLE = 11
+abbrev pub TABLE : Refusal
+TABLE = R.Table
+
+-- the number of each
+abbrev pub refusal_number : Refusal → ℕ
+refusal_number R.Input = 1
+refusal_number R.Form = 2
+refusal_number R.Head = 3
+refusal_number R.Root = 4
+refusal_number R.Rule = 5
+refusal_number R.Full = 6
+refusal_number R.Clash = 7
+refusal_number R.Room = 8
+refusal_number R.Twice = 9
+refusal_number R.Epoch = 10
+refusal_number R.Table = 11

@@ -1,6 +1,6 @@
 -- "A lookup's version, epoch, key and opening depend only on that name's own records and the epoch asked; head and path bytes and
 -- refusals may depend on others."
-use Rattle.std.specs.Prelude.{◌≡◌, List, [], ◌∷◌, ℕ, take}
+use Rattle.std.specs.Prelude.{◌≡◌, List, [], ◌∷◌, ℕ, Ok, Err, take}
 use Rattle.paper.specs.Bytes.{Bytes}
 use Rattle.paper.specs.Path.{Path, epoch_of}
 use Rattle.paper.specs.Layout.{got, parse}
@@ -8,8 +8,7 @@ use Rattle.paper.specs.Shows.{Item, Proof}
 use Rattle.paper.specs.Lookup.{lookup_field}
 use Rattle.paper.specs.Table.{Record}
 use Rattle.paper.specs.Write.{Written, item_of}
-use Rattle.paper.specs.declared.WriteAnswer.{WriteAnswer}
-use Rattle.paper.specs.declared.WriteAnswer.TheVariants as W
+use Rattle.paper.specs.Answer.{WriteAnswer}
 
 -- what a lookup proof says of a name: its version, key and opening, and the epoch that its version's leaf bears; version 0 has none
 pub record Said : Type 0 where
@@ -32,8 +31,8 @@ last_says (r ∷ q ∷ rs) = last_says (q ∷ rs)
 
 -- the bytes of the proof that a writer left: as many from the output's start as it answers; a refusal leaves none
 abbrev pub proof_left : WriteAnswer → Bytes → Bytes
-proof_left (W.Written n s) out = take n out
-proof_left (W.Refused n s) out = []
+proof_left (Ok w) out = take w.length out
+proof_left (Err e) out = []
 
 -- a writer left a lookup proof that says just this: it is what reading the layout gives
 pub record Says (w : Written) (says : Said) : Type 0 where

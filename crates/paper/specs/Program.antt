@@ -1,11 +1,11 @@
 -- Document 01, "The checking program": its line as a function of its input.
-use Rattle.std.specs.Prelude.{cond, ◌&&◌, [], ◌∷◌, ◌++◌, ℕ, zero, suc, ◌+◌, ◌/◌, ◌%◌, leb, ltb, length, take, drop, get_or}
-use Rattle.paper.specs.Numbers.{wide, INPUT}
+use Rattle.std.specs.Prelude.{cond, ◌&&◌, [], ◌∷◌, ◌++◌, ℕ, zero, suc, ◌+◌, ◌/◌, ◌%◌, Ok, Err, leb, ltb, length, take, drop, get_or}
+use Rattle.paper.specs.Numbers.{wide, INPUT, refusal_number}
 use Rattle.paper.specs.Bytes.{Bytes}
 use Rattle.paper.specs.Labelling.{plain}
 use Rattle.paper.specs.Lookup.{check_lookup}
-use Rattle.paper.specs.declared.LookupAnswer.{LookupAnswer}
-use Rattle.paper.specs.declared.LookupAnswer.TheVariants.{Found, NotRegistered, Refused}
+use Rattle.paper.specs.Answer.{LookupAnswer}
+use Rattle.paper.specs.declared.AcceptedLookup.TheVariants.{Found, NotRegistered}
 
 -- a number below 10 ^ (k + 1) in decimal digits
 unfoldable pub decimal_in : ℕ → ℕ → Bytes
@@ -37,9 +37,9 @@ abbrev pub accepted : ℕ → ℕ → ℕ → Bytes
 accepted v t c = version_word ++ (decimal v ++ (epoch_word ++ (decimal t ++ (digests_word ++ (decimal c ++ line_end)))))
 
 abbrev pub line : LookupAnswer → Bytes
-line (Found v t c) = accepted v t c
-line (NotRegistered t c) = accepted 0 t c
-line (Refused n) = refused_word ++ (decimal n ++ line_end)
+line (Ok (Found v t c)) = accepted v t c
+line (Ok (NotRegistered t c)) = accepted 0 t c
+line (Err r) = refused_word ++ (decimal (refusal_number r) ++ line_end)
 
 -- "It reads from standard input: head 32, name length 1, name, lookup proof. Over 65,536 bytes, or too short for head and name,
 -- is 1."
@@ -48,4 +48,4 @@ program_line b =
     let n : ℕ = get_or b wide 0 in
     cond (leb (length b) 65536 && leb (33 + n) (length b))
     (line (check_lookup plain (take wide b) (take n (drop 33 b)) (drop (33 + n) b)))
-    (line (Refused INPUT))
+    (line (Err INPUT))

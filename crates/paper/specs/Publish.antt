@@ -1,5 +1,5 @@
 -- Document 01, "Publishing": start and publish, what they answer and every byte that they leave.
-use Rattle.std.specs.Prelude.{Bool, true, not, ◌&&◌, List, [], ◌∷◌, ◌++◌, map, ℕ, suc, ◌+◌, ◌*◌, ◌/◌, ◌%◌, eqb, leb, length}
+use Rattle.std.specs.Prelude.{Bool, true, not, ◌&&◌, List, [], ◌∷◌, ◌++◌, map, ℕ, suc, ◌+◌, ◌*◌, ◌/◌, ◌%◌, Ok, Err, eqb, leb, length}
 use Rattle.paper.specs.Lists.{every, some}
 use Rattle.paper.specs.Numbers.{wide, version_most, batch_most, record_size, update_size, INPUT, TABLE, TWICE, FULL, CLASH}
 use Rattle.paper.specs.Bytes.{Bytes, pasted}
@@ -8,10 +8,8 @@ use Rattle.paper.specs.Layout.{Read, got, bad, times, times_bytes, parse}
 use Rattle.paper.specs.Verdict.{Test, test, verdict}
 use Rattle.paper.specs.Table.{Record, Update, record_field, update_field, records_within, heads_within, counted, head_lies, own_records, last_version, in_shape, all_at, old_at, head_digest, distinct}
 use Rattle.paper.specs.declared.State.{State}
-use Rattle.paper.specs.declared.StartAnswer.{StartAnswer}
-use Rattle.paper.specs.declared.StartAnswer.TheVariants as S
-use Rattle.paper.specs.declared.PublishAnswer.{PublishAnswer}
-use Rattle.paper.specs.declared.PublishAnswer.TheVariants as P
+use Rattle.paper.specs.Answer.{StartAnswer, PublishAnswer, returned}
+use Rattle.paper.specs.declared.Refusal.{Refusal}
 
 -- what starting leaves: the answer, and the head table
 pub record Started : Type 0 where
@@ -21,8 +19,8 @@ pub record Started : Type 0 where
 -- "Starting a directory tests 1 only and writes head 0; it has no records."
 unfoldable pub start : Labelling → Bytes → Started
 start lab heads =
-    verdict (λ n. record { answer = S.Refused n; heads = heads })
-    (record { answer = S.Started (record { count = 0; epoch = 0 }); heads = pasted heads 0 (head_digest lab heads 0 []) })
+    verdict (λ r. record { answer = Err r; heads = heads })
+    (record { answer = Ok (record { count = 0; epoch = 0 }); heads = pasted heads 0 (head_digest lab heads 0 []) })
     (test INPUT (heads_within heads) ∷ [])
 
 -- what publishing leaves: the answer, and both tables
@@ -43,13 +41,13 @@ module _ (lab : Labelling) where
 
   module _ (records heads : Bytes) (state : State) where
     -- "A refusal writes nothing .. and hands back the state it was given."
-    abbrev pub unpublished : ℕ → Published
-    unpublished n = record { answer = P.Refused n state; records = records; heads = heads }
+    abbrev pub unpublished : Refusal → Published
+    unpublished r = record { answer = returned state r; records = records; heads = heads }
 
     -- "Success writes only the named records, head or proof."
     abbrev pub appended : List Record → List Record → Published
     appended rs more = record {
-      answer = P.Published (record { count = state.count + length more; epoch = suc state.epoch });
+      answer = Ok (record { count = state.count + length more; epoch = suc state.epoch });
       records = pasted records (state.count * record_size) (times_bytes record_field.bytes more);
       heads = pasted heads (suc state.epoch * wide) (head_digest lab heads (suc state.epoch) (rs ++ more));
     }

@@ -1,9 +1,9 @@
 -- Demand 1 over the definitions, for every public entry: "ends, and either answers or refuses by a number from document 01. A refusal writes nothing
 -- in any buffer lent to it and hands back the state it was given." Each entry's tests stand here as one list, in document 01's order;
 -- proofs/Refusals.antt shows that the entry is decided by them.
-use Rattle.std.specs.Prelude.{◌≡◌, ◌⊎◌, ◌↔◌, Bool, true, false, not, ◌&&◌, List, [], ◌∷◌, ◌++◌, map, ℕ, suc, ◌+◌, ◌-◌, ◌*◌, ◌/◌, eqb, leb, length, take, drop, get_or}
+use Rattle.std.specs.Prelude.{◌≡◌, ◌⊎◌, ◌↔◌, Bool, true, false, not, ◌&&◌, List, [], ◌∷◌, ◌++◌, map, ℕ, suc, ◌+◌, ◌-◌, ◌*◌, ◌/◌, Err, eqb, leb, length, take, drop, get_or}
 use Rattle.paper.specs.Lists.{◌∈◌, every}
-use Rattle.paper.specs.Numbers.{wide, version_most, record_size, update_size, INPUT, FORM, HEAD, ROOT, RULE, FULL, CLASH, ROOM, TWICE, EPOCH, TABLE}
+use Rattle.paper.specs.Numbers.{wide, version_most, record_size, update_size, INPUT, FORM, HEAD, ROOT, RULE, FULL, CLASH, ROOM, TWICE, EPOCH, TABLE, refusal_number}
 use Rattle.paper.specs.Bytes.{Bytes}
 use Rattle.paper.specs.Bits.{bits_of}
 use Rattle.paper.specs.Labelling.{Labelling, plain}
@@ -20,21 +20,14 @@ use Rattle.paper.specs.Table.{Record, update_field, records_within, heads_within
 use Rattle.paper.specs.Publish.{start, new_record, once, batch_within, publish}
 use Rattle.paper.specs.Write.{versions_by, unclashed, lookup_proof, history_proof, audit_proof, write_lookup, write_history, write_audit}
 use Rattle.paper.specs.Level.{entries_within, leaves_of, tree_root, tree_path}
-use Rattle.paper.specs.Answer.{Reply, lookup_reply, lookup_number, history_reply, audit_reply, state_values, start_reply, publish_reply, write_reply, tree_reply}
+use Rattle.paper.specs.Answer.{Reply, LookupAnswer, returned, lookup_reply, lookup_number, history_reply, audit_reply, state_values, start_reply, publish_reply, write_reply, tree_reply}
 use Rattle.paper.specs.Program.{line, program_line}
 use Rattle.paper.specs.declared.State.{State}
-use Rattle.paper.specs.declared.LookupAnswer.{LookupAnswer}
-use Rattle.paper.specs.declared.LookupAnswer.TheVariants as L
-use Rattle.paper.specs.declared.HistoryAnswer.TheVariants as H
-use Rattle.paper.specs.declared.AuditAnswer.TheVariants as A
-use Rattle.paper.specs.declared.StartAnswer.TheVariants as S
-use Rattle.paper.specs.declared.PublishAnswer.TheVariants as P
-use Rattle.paper.specs.declared.WriteAnswer.TheVariants as W
-use Rattle.paper.specs.declared.TreeAnswer.TheVariants as T
+use Rattle.paper.specs.declared.Refusal.{Refusal}
 
--- what an entry leaves (its answer, and all that it was lent) is decided by tests in an order; `refused n` has the number n, the state and
+-- what an entry leaves (its answer, and all that it was lent) is decided by tests in an order; `refused r` has the refusal r, the state and
 -- every byte as they were given, and `given` are the values of that state, or none
-pub record Decided {A : Type 0} (says : A → Reply) (given : List ℕ) (refused : ℕ → A) (order : List Test) (numbers : List ℕ) (left : A) : Type 0 where
+pub record Decided {A : Type 0} (says : A → Reply) (given : List ℕ) (refused : Refusal → A) (order : List Test) (numbers : List ℕ) (left : A) : Type 0 where
   -- it answers exactly where every test holds
   pub answers : ((says left).number ≡ 0) ↔ Hold order
   -- "given exactly when": it refuses by n exactly where the first test that fails has the number n
@@ -44,17 +37,17 @@ pub record Decided {A : Type 0} (says : A → Reply) (given : List ℕ) (refused
   -- "Each returns its number only, with the state as given where there is one."
   pub only : ¬ ((says left).number ≡ 0) → (says left).values ≡ given
   -- "A refusal writes nothing .. and hands back the state it was given."
-  pub keeps : ¬ ((says left).number ≡ 0) → left ≡ refused (says left).number
+  pub keeps : ¬ ((says left).number ≡ 0) → (r : Refusal) × (refusal_number r ≡ (says left).number) × (left ≡ refused r)
 
 -- the test that something was read, and behind it those of what was read
-abbrev pub reading : {A : Type 0} → ℕ → Read A → (A → List Test) → List Test
+abbrev pub reading : {A : Type 0} → Refusal → Read A → (A → List Test) → List Test
 reading n bad tests = test n false ∷ []
 reading n (got x r) tests = test n true ∷ tests x
 
 -- ---- the checkers
 
 abbrev pub checker_numbers : List ℕ
-checker_numbers = INPUT ∷ FORM ∷ HEAD ∷ ROOT ∷ RULE ∷ []
+checker_numbers = map refusal_number (INPUT ∷ FORM ∷ HEAD ∷ ROOT ∷ RULE ∷ [])
 
 -- "Checkers test 1, 2 over the whole proof, 3; then lookup and history take paths in order, 4 before 5 for each."
 module _ (lab : Labelling) (d name : Bytes) where
@@ -84,18 +77,18 @@ program_order b =
 
 -- "Starting a directory tests 1 only"
 abbrev pub start_numbers : List ℕ
-start_numbers = INPUT ∷ []
+start_numbers = map refusal_number (INPUT ∷ [])
 
 abbrev pub start_order : Bytes → List Test
 start_order heads = test INPUT (heads_within heads) ∷ []
 
 -- "Publishing tests 1, 11, 9, 6, 7."
 abbrev pub publish_numbers : List ℕ
-publish_numbers = INPUT ∷ TABLE ∷ TWICE ∷ FULL ∷ CLASH ∷ []
+publish_numbers = map refusal_number (INPUT ∷ TABLE ∷ TWICE ∷ FULL ∷ CLASH ∷ [])
 
 -- "Writers test 1, 11, 10, 7, 8."
 abbrev pub writer_numbers : List ℕ
-writer_numbers = INPUT ∷ TABLE ∷ EPOCH ∷ CLASH ∷ ROOM ∷ []
+writer_numbers = map refusal_number (INPUT ∷ TABLE ∷ EPOCH ∷ CLASH ∷ ROOM ∷ [])
 
 module _ (lab : Labelling) (records heads : Bytes) (state : State) where
   abbrev pub publish_order : Bytes → List Test
@@ -144,7 +137,7 @@ module _ (lab : Labelling) (records heads : Bytes) (state : State) where
 
 -- "CLASH is tried at the tree level, which takes labels directly."
 abbrev pub tree_numbers : List ℕ
-tree_numbers = INPUT ∷ CLASH ∷ ROOM ∷ []
+tree_numbers = map refusal_number (INPUT ∷ CLASH ∷ ROOM ∷ [])
 
 abbrev pub tree_root_order : Bytes → Bytes → List Test
 tree_root_order entries out =
@@ -164,28 +157,28 @@ tree_path_order entries label absent out =
 
 -- every public entry's definition, with what it leaves where it refuses by n
 pub record EveryEntry (lab : Labelling) : Type 0 where
-  pub check-lookup : (d name b : Bytes) → Decided lookup_reply [] L.Refused (lookup_order lab d name b) checker_numbers (check_lookup lab d name b)
-  pub check-history : (d name b : Bytes) → Decided history_reply [] H.Refused (history_order lab d name b) checker_numbers (check_history lab d name b)
-  pub check-audit : (d d' b : Bytes) → Decided audit_reply [] A.Refused (audit_order d d' b) checker_numbers (check_audit d d' b)
+  pub check-lookup : (d name b : Bytes) → Decided lookup_reply [] Err (lookup_order lab d name b) checker_numbers (check_lookup lab d name b)
+  pub check-history : (d name b : Bytes) → Decided history_reply [] Err (history_order lab d name b) checker_numbers (check_history lab d name b)
+  pub check-audit : (d d' b : Bytes) → Decided audit_reply [] Err (audit_order d d' b) checker_numbers (check_audit d d' b)
   -- "a refusal .. gives the empty part at its start"
   pub accepted-key : (d name b : Bytes) → ¬ (lookup_number (check_lookup lab d name b) ≡ 0) → accepted_key (check_lookup lab d name b) b ≡ []
   -- "It prints one line": that of an answer which is decided so
-  pub program-line : (b : Bytes) → (a : LookupAnswer) × (program_line b ≡ line a) × Decided lookup_reply [] L.Refused (program_order b) checker_numbers a
+  pub program-line : (b : Bytes) → (a : LookupAnswer) × (program_line b ≡ line a) × Decided lookup_reply [] Err (program_order b) checker_numbers a
   pub starts : (heads : Bytes)
-      → Decided (λ x. start_reply x.answer) [] (λ n. record { answer = S.Refused n; heads = heads }) (start_order heads) start_numbers (start lab heads)
+      → Decided (λ x. start_reply x.answer) [] (λ r. record { answer = Err r; heads = heads }) (start_order heads) start_numbers (start lab heads)
   pub publishes : (records heads : Bytes) (state : State) (batch : Bytes)
-      → Decided (λ x. publish_reply x.answer) (state_values state) (λ n. record { answer = P.Refused n state; records = records; heads = heads })
+      → Decided (λ x. publish_reply x.answer) (state_values state) (λ r. record { answer = returned state r; records = records; heads = heads })
       (publish_order lab records heads state batch) publish_numbers (publish lab records heads state batch)
   pub write-lookup : (records heads : Bytes) (state : State) (out name : Bytes) (t : ℕ)
-      → Decided (λ x. write_reply x.answer) (state_values state) (λ n. record { answer = W.Refused n state; out = out })
+      → Decided (λ x. write_reply x.answer) (state_values state) (λ r. record { answer = returned state r; out = out })
       (lookup_writer_order lab records heads state out name t) writer_numbers (write_lookup lab records heads state out name t)
   pub write-history : (records heads : Bytes) (state : State) (out name : Bytes) (t : ℕ)
-      → Decided (λ x. write_reply x.answer) (state_values state) (λ n. record { answer = W.Refused n state; out = out })
+      → Decided (λ x. write_reply x.answer) (state_values state) (λ r. record { answer = returned state r; out = out })
       (history_writer_order lab records heads state out name t) writer_numbers (write_history lab records heads state out name t)
   pub write-audit : (records heads : Bytes) (state : State) (out : Bytes) (t : ℕ)
-      → Decided (λ x. write_reply x.answer) (state_values state) (λ n. record { answer = W.Refused n state; out = out })
+      → Decided (λ x. write_reply x.answer) (state_values state) (λ r. record { answer = returned state r; out = out })
       (audit_writer_order lab records heads state out t) writer_numbers (write_audit lab records heads state out t)
   pub tree-root : (entries out : Bytes)
-      → Decided (λ x. tree_reply x.answer) [] (λ n. record { answer = T.Refused n; out = out }) (tree_root_order entries out) tree_numbers (tree_root entries out)
+      → Decided (λ x. tree_reply x.answer) [] (λ r. record { answer = Err r; out = out }) (tree_root_order entries out) tree_numbers (tree_root entries out)
   pub tree-path : (entries label : Bytes) (absent : Bool) (out : Bytes)
-      → Decided (λ x. tree_reply x.answer) [] (λ n. record { answer = T.Refused n; out = out }) (tree_path_order entries label absent out) tree_numbers (tree_path entries label absent out)
+      → Decided (λ x. tree_reply x.answer) [] (λ r. record { answer = Err r; out = out }) (tree_path_order entries label absent out) tree_numbers (tree_path entries label absent out)

@@ -14,7 +14,9 @@ use Rattle.paper.specs.Layout.{Layout}
 use Rattle.paper.specs.Shows.{in_all, as_marker, Proof, commitment_at, label_at}
 use Rattle.paper.specs.Lookup.{lookup_field}
 use Rattle.paper.specs.History.{history_field}
-use Rattle.paper.specs.Audit.{AuditRecord, unchanged, opened, fresh, Audit, audit_field, olds, news, record_key, Which, of_all, of_old}
+use Rattle.paper.specs.Audit.{AuditRecord, unchanged, opened, fresh, Audit, audit_field, olds, news, record_key}
+use Rattle.paper.specs.declared.Which.{Which}
+use Rattle.paper.specs.declared.Which.TheVariants.{OfAll, OfOld}
 
 -- ---- bounds and layout
 
@@ -141,8 +143,8 @@ Pairs P (x ∷ R) = All (λ y. P (record_key x) (record_key y)) R × Pairs P R
 
 -- "Leaves of *old* have a zero commitment."
 abbrev pub CommitmentIn : Which → Bytes → Type 0
-CommitmentIn of_all c = Unit {0}
-CommitmentIn of_old c = c ≡ zeros wide
+CommitmentIn OfAll c = Unit {0}
+CommitmentIn OfOld c = c ≡ zeros wide
 
 -- "new leaves bear the new epoch, unchanged leaves an epoch from 1 to the old one"
 abbrev pub RecordRules : Which → ℕ → ℕ → AuditRecord → Type 0
@@ -174,8 +176,8 @@ pub record AuditRules (d d' : Bytes) (a : Audit) : Type 0 where
   pub opens-new : sha256 (head_string a.after) ≡ d'
   pub joined : Joined d a.before a.after
   -- "for *all* and for *old*"
-  pub all_list : ListRules of_all a.before.epoch a.after.epoch a.all a.before.all a.after.all
-  pub old-list : ListRules of_old a.before.epoch a.after.epoch a.old a.before.old a.after.old
+  pub all_list : ListRules OfAll a.before.epoch a.after.epoch a.all a.before.all a.after.all
+  pub old-list : ListRules OfOld a.before.epoch a.after.epoch a.old a.before.old a.after.old
 
 -- ---- accepted
 

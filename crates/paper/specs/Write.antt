@@ -16,8 +16,8 @@ use Rattle.paper.specs.History.{history_asked, history_field}
 use Rattle.paper.specs.Audit.{AuditRecord, unchanged, opened, fresh, Audit, audit_field}
 use Rattle.paper.specs.Table.{Record, records_within, heads_within, counted, head_lies, in_shape, own_records, last_version, by_epoch, all_at, old_at, head_of, holds, distinct}
 use Rattle.paper.specs.declared.State.{State}
-use Rattle.paper.specs.declared.WriteAnswer.{WriteAnswer}
-use Rattle.paper.specs.declared.WriteAnswer.TheVariants as W
+use Rattle.paper.specs.Answer.{WriteAnswer, written, returned}
+use Rattle.paper.specs.declared.Refusal.{Refusal}
 
 -- what a writer leaves: the answer, and the lent output
 pub record Written : Type 0 where
@@ -102,14 +102,14 @@ module _ (lab : Labelling) where
   }
 
   module _ (records heads : Bytes) (state : State) (out : Bytes) where
-    abbrev pub unwritten : ℕ → Written
-    unwritten n = record { answer = W.Refused n state; out = out }
+    abbrev pub unwritten : Refusal → Written
+    unwritten r = record { answer = returned state r; out = out }
 
     -- "Writers test 1, 11, 10, 7, 8.": at epoch t, with the trees' test and the proof's bytes for the counted records
     abbrev pub write_read : ℕ → (List Record → Bool) → (List Record → Bytes) → Read (List Record) → Written
     write_read t clear proof bad = unwritten TABLE
     write_read t clear proof (got rs r) =
-        verdict unwritten (record { answer = W.Written (length (proof rs)) state; out = pasted out 0 (proof rs) })
+        verdict unwritten (record { answer = written (length (proof rs)) state; out = pasted out 0 (proof rs) })
         (test TABLE (head_lies heads state.epoch && in_shape lab state.epoch [] rs)
         ∷ test EPOCH (leb t state.epoch)
         ∷ test CLASH (clear rs)

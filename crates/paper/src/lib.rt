@@ -5,9 +5,44 @@
 // values that the code returns. Answer.antt gives document 01's number and values of each case.
 #![tactic(auto)]
 
+ghost use Rattle.std.specs.Prelude.{◌≡◌};
+ghost use Rattle.paper.specs.Numbers.{refusal_number};
+
+// "Numbers that say no", each by its name.
+#[derive(Clone, Copy, Debug, PartialEq, Eq)]
+pub enum Refusal {
+    Input = 1,
+    Form = 2,
+    Head = 3,
+    Root = 4,
+    Rule = 5,
+    Full = 6,
+    Clash = 7,
+    Room = 8,
+    Twice = 9,
+    Epoch = 10,
+    Table = 11,
+}
+
+impl Refusal {
+    // Document 01's number.
+    pub fn number(self) -> u8
+        ensures { result ≡ refusal_number self }
+    {
+        self as u8
+    }
+}
+
+// The tree that is meant: *all* or *old*.
+#[derive(Clone, Copy, Debug, PartialEq, Eq)]
+pub enum Which {
+    OfAll,
+    OfOld,
+}
+
 // What a lookup check answers.
-#[derive(Clone, Copy)]
-pub enum LookupAnswer {
+#[derive(Clone, Copy, Debug, PartialEq, Eq)]
+pub enum AcceptedLookup {
     Found {
         version: u16,
         epoch: u32,
@@ -17,62 +52,67 @@ pub enum LookupAnswer {
         epoch: u32,
         digests: u32,
     },
-    Refused(u8),
 }
+
+pub type LookupAnswer = Result<AcceptedLookup, Refusal>;
 
 // What a history check answers.
-#[derive(Clone, Copy)]
-pub enum HistoryAnswer {
-    Accepted {
-        versions: u16,
-        epoch: u32,
-        digests: u32,
-    },
-    Refused(u8),
+#[derive(Clone, Copy, Debug, PartialEq, Eq)]
+pub struct AcceptedHistory {
+    pub versions: u16,
+    pub epoch: u32,
+    pub digests: u32,
 }
+
+pub type HistoryAnswer = Result<AcceptedHistory, Refusal>;
 
 // What an audit check answers.
-#[derive(Clone, Copy)]
-pub enum AuditAnswer {
-    Accepted {
-        old_epoch: u32,
-        new_epoch: u32,
-        digests: u32,
-    },
-    Refused(u8),
+#[derive(Clone, Copy, Debug, PartialEq, Eq)]
+pub struct AcceptedAudit {
+    pub old_epoch: u32,
+    pub new_epoch: u32,
+    pub digests: u32,
 }
 
+pub type AuditAnswer = Result<AcceptedAudit, Refusal>;
+
 // "The state is the record count and the current epoch."
-#[derive(Clone, Copy)]
+#[derive(Clone, Copy, Debug, PartialEq, Eq)]
 pub struct State {
     pub count: u32,
     pub epoch: u32,
 }
 
-// What starting a directory answers.
-#[derive(Clone, Copy)]
-pub enum StartAnswer {
-    Started(State),
-    Refused(u8),
+// A refusal, "with the state as given".
+#[derive(Clone, Copy, Debug, PartialEq, Eq)]
+pub struct Returned {
+    pub refusal: Refusal,
+    pub state: State,
 }
+
+impl From<Returned> for Refusal {
+    ghost from_gives = { λ returned refusal. refusal ≡ returned.refusal };
+
+    fn from(returned: Returned) -> Refusal {
+        returned.refusal
+    }
+}
+
+// A proof's length, and the state as it was given.
+#[derive(Clone, Copy, Debug, PartialEq, Eq)]
+pub struct Written {
+    pub length: usize,
+    pub state: State,
+}
+
+// What starting a directory answers.
+pub type StartAnswer = Result<State, Refusal>;
 
 // What publishing answers: the new state, or the state as it was given.
-#[derive(Clone, Copy)]
-pub enum PublishAnswer {
-    Published(State),
-    Refused { number: u8, state: State },
-}
+pub type PublishAnswer = Result<State, Returned>;
 
-// What a writer answers: the proof's length, and in either case the state as it was given.
-#[derive(Clone, Copy)]
-pub enum WriteAnswer {
-    Written { length: usize, state: State },
-    Refused { number: u8, state: State },
-}
+// What a writer answers.
+pub type WriteAnswer = Result<Written, Returned>;
 
 // What a call of the tree level answers: how many bytes it wrote.
-#[derive(Clone, Copy)]
-pub enum TreeAnswer {
-    Written(usize),
-    Refused(u8),
-}
+pub type TreeAnswer = Result<usize, Refusal>;

@@ -1,8 +1,8 @@
 -- A path that was read stands at its places, and is found there again. Assumes nothing.
-use mathlib.Core.Path.{◌≡◌, refl, sym, ap, ◌∙◌, subst}
-use mathlib.Core.Bool.{true, false, ◌&&◌}
+use mathlib.Core.Path.{◌≡◌, refl, sym, ap, ap₂, ◌∙◌, subst}
+use mathlib.Core.Bool.{true, ◌&&◌}
 use mathlib.Core.List.{List}
-use Prim.Native.Nat.{ℕ, zero, suc, ◌+◌, ◌*◌, ◌≤◌, ◌<◌}
+use Prim.Native.Nat.{ℕ, zero, suc, ◌+◌, ◌-◌, ◌*◌, ◌≤◌, ◌<◌}
 use native.Mathlib.Omega.{arith}
 use lib.Dec.{leb}
 use lib.ListN.{length, take, drop, length-drop}
@@ -14,10 +14,11 @@ use Rattle.paper.specs.Layout.{Read, got, bad, within, led, times, such, never}
 use Rattle.paper.specs.Fields.{step_field, rise, end_of, end_field, path_body, path_field}
 use Rattle.paper.specs.Path.{path_root}
 use Rattle.paper.specs.Path as P
-use Rattle.paper.proofs.Lists.{and_left, and_right, all_take, all_drop, not-both}
+use Rattle.paper.proofs.Lists.{and_left, and_right, all_take, all_drop}
 use Rattle.paper.proofs.Layouts.{then-got}
 use Rattle.ranges.proofs.Slices.{length_part}
-use Rattle.path_form.specs.Places.{steps_in, ranged, prefix_length, prefix_bytes, prefix_good, end_in, path_in, EndStands, PathStands}
+use Rattle.path_form.specs.Places.{commitment_of, steps_in, ranged, prefix_length, prefix_bytes, prefix_good, end_in, path_in, EndStands, PathStands}
+use Rattle.std.specs.Prelude.{Some, None}
 use Rattle.path_form.specs.Parsed.{placed, path_of, path_at}
 use Rattle.path.specs.Taken.{shown_by, taken_of, taken}
 use Rattle.path_form.specs.declared.Path.{Path}
@@ -75,8 +76,10 @@ short-steps (suc m) low high t h e (suc i) l =
 
 -- a path that was read in s from `at` on, and what parsing makes of it
 record PathFound (s : Bytes) (at : ℕ) (x : P.Path) (r : Bytes) : Type 0 where
-  stands : PathStands s (path_of (length s) at (got x r))
-  is : path_in s (path_of (length s) at (got x r)) ≡ x
+  parsed : Path
+  was : path_of (length s) at (got x r) ≡ Some parsed
+  stands : PathStands s parsed
+  is : path_in s parsed ≡ x
 
 module _ (s : Bytes) (at m : ℕ) (w : Bytewise s) (some : 1 ≤ m) (most : m ≤ 256) where
   -- steps and end
@@ -90,6 +93,8 @@ module _ (s : Bytes) (at m : ℕ) (w : Bytewise s) (some : 1 ≤ m) (most : m �
   whole-found e r room rises (h, i) =
       let n = steps-length m (drop (at + 2) s) in
       record {
+        parsed = _;
+        was = refl;
         stands = rw n (record {
           some = some;
           most = most;
@@ -99,6 +104,7 @@ module _ (s : Bytes) (at m : ℕ) (w : Bytewise s) (some : 1 ≤ m) (most : m �
             short = rw (drop-drop (34 * i) (at + 2) s) at (short-steps m 0 0 (drop (at + 2) s) (omega arith) rises i l);
           };
           last = h;
+          shown = ap commitment_of (sym i);
         });
         is = rw (n, i);
       }
@@ -132,37 +138,42 @@ found s at x r w h =
 -- a parsed path that is the value x
 abbrev pub taken_as : Bytes → Bytes → Path → P.Path → Taken
 taken_as label root p x = record {
-  good = true;
   nodes = p.count;
   matches = same (path_root (bits_of label) x) root;
   shows = shown_by (bits_of label) x;
-  commitment = p.commitment;
+  next = p.next;
 }
 
-module _ (s : Bytes) (at : ℕ) (w : Bytewise s) (p : Path) (parsed : p ≡ path_at s at) where
+module _ (s : Bytes) (at : ℕ) (w : Bytewise s) where
   -- what was parsed stands at its places
-  pub path-stands : p.good ≡ true → PathStands s p
+  pub path-stands : (p : Path) → path_at s at ≡ Some p → PathStands s p
   unfolding path_at
-  path-stands g = rw parsed (by (path_field.read (drop at s)) refl (rw parsed at g))
+  path-stands p e = by (path_field.read (drop at s)) refl e
     where
-      by : (x : Read P.Path) → path_field.read (drop at s) ≡ x → (path_of (length s) at x).good ≡ true → PathStands s (path_of (length s) at x)
-      by bad e g = not-both g refl
-      by (got x r) e g = (found s at x r w e).stands
+      by : (x : Read P.Path) → path_field.read (drop at s) ≡ x → path_of (length s) at x ≡ Some p → PathStands s p
+      by bad h e = let z : ◌≡◌ {A = ℕ} 0 1 = cc in absurd (omega arith)
+      by (got x r) h e = let f = found s at x r w h in let q : f.parsed ≡ p = cc (f.was) in subst (PathStands s) q f.stands
 
   module _ (label root : Bytes) where
-    pub taken-bad : p.good ≡ false → taken s at label root ≡ taken_of label root bad
+    pub taken-bad : path_at s at ≡ None → taken s at label root ≡ None
     unfolding path_at taken
-    taken-bad g = by (path_field.read (drop at s)) (rw parsed at g)
+    taken-bad e = by (path_field.read (drop at s)) e
       where
-        by : (x : Read P.Path) → (path_of (length s) at x).good ≡ false → taken_of label root x ≡ taken_of label root bad
-        by bad g = refl
-        by (got x r) g = not-both refl g
+        by : (x : Read P.Path) → path_of (length s) at x ≡ None → taken_of (length s) label root x ≡ None
+        by bad e = refl
+        by (got x r) e = let z : ◌≡◌ {A = ℕ} 0 1 = cc in absurd (omega arith)
 
-    pub taken-good : p.good ≡ true → taken s at label root ≡ taken_as label root p (path_in s p)
+    pub taken-good : (p : Path) → path_at s at ≡ Some p → taken s at label root ≡ Some (taken_as label root p (path_in s p))
     unfolding path_at taken
-    taken-good g = rw parsed (by (path_field.read (drop at s)) refl (rw parsed at g))
+    taken-good p e = by (path_field.read (drop at s)) refl e
       where
-        by : (x : Read P.Path) → path_field.read (drop at s) ≡ x → (path_of (length s) at x).good ≡ true
-            → taken_of label root x ≡ taken_as label root (path_of (length s) at x) (path_in s (path_of (length s) at x))
-        by bad e g = not-both g refl
-        by (got x r) e g = ap (taken_as label root (path_of (length s) at (got x r))) (sym (found s at x r w e).is)
+        by : (x : Read P.Path) → path_field.read (drop at s) ≡ x → path_of (length s) at x ≡ Some p → taken_of (length s) label root x ≡ Some (taken_as label root p (path_in s p))
+        by bad h e = let z : ◌≡◌ {A = ℕ} 0 1 = cc in absurd (omega arith)
+        by (got x r) h e =
+            let f = found s at x r w h in
+            let q : f.parsed ≡ p = cc (f.was) in
+            let n : length x.steps ≡ p.count = cc in
+            let i : x ≡ path_in s p = subst (λ q. x ≡ path_in s q) q (sym f.is) in
+            let m : length s - length r ≡ p.next = cc in
+            ap₂ (λ k y. Some (record { nodes = k; matches = same (path_root (bits_of label) y) root; shows = shown_by (bits_of label) y; next = length s - length r })) n i
+            ∙ ap (λ m. Some (record { nodes = p.count; matches = same (path_root (bits_of label) (path_in s p)) root; shows = shown_by (bits_of label) (path_in s p); next = m })) m

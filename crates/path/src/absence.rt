@@ -38,10 +38,12 @@ pub(crate) fn shows(s: &[u8], label: [u8; 32], path: Path) -> Shown
     ensures { result ≡ shown_by (bits_of label) (path_in s.now path) }
 {
     let k = last_length(s, path.steps, path.count);
-    let end = path.end;
-    match end {
-        End::This { at: _, epoch } => Shown::Present(epoch),
-        End::Other { at, epoch: _ } => parts(s, at, 256, label, k),
+    match path.end {
+        End::This { epoch, .. } => {
+            let commitment = path.commitment;
+            Shown::Present { commitment, epoch }
+        }
+        End::Other { at, .. } => parts(s, at, 256, label, k),
         End::Off { at } => parts(s, at + 2, read16(s, at) as usize, label, k),
         End::Nothing => Shown::Absent,
     }

@@ -33,9 +33,7 @@ fn climb(s: &[u8], at: usize, m: usize, label: [u8; 32], end: [u8; 32]) -> [u8; 
     ensures { result ≡ climbed (bits_of label) (steps_in m (drop at s.now)) «end» }
 {
     let mut below = end;
-    let mut i = m;
-    while 0 < i {
-        i -= 1;
+    for i in (0..m).rev() {
         below = step_up(s, at + 34 * i, label, &below);
     }
     below
@@ -89,7 +87,6 @@ pub(crate) fn root_of(s: &[u8], label: [u8; 32], path: Path) -> [u8; 32]
     requires { PathStands s.now path }
     ensures { result ≡ path_root (bits_of label) (path_in s.now path) }
 {
-    let end = path.end;
-    let below = end_digest(s, label, end);
+    let below = end_digest(s, label, path.end);
     climb(s, path.steps, path.count, label, below)
 }

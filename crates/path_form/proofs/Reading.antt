@@ -1,11 +1,10 @@
 -- Reading a path, field by field from its place on. Assumes nothing.
-use mathlib.Core.Path.{◌≡◌, refl, sym, ap, ◌∙◌}
-use mathlib.Core.Logic.{inl, inr}
-use mathlib.Core.Bool.{true, false, cond}
+use mathlib.Core.Path.{◌≡◌, refl, sym, ap, ◌∙◌, subst}
+use mathlib.Core.Logic.{◌⊎◌}
+use mathlib.Core.Bool.{true, false}
 use mathlib.Core.List.{List}
 use Prim.Native.Nat.{ℕ, ◌+◌, ◌*◌, ◌≤◌, ◌<◌}
 use native.Mathlib.Omega.{arith}
-use native.Mathlib.Decide.{dec_le}
 use lib.Dec.{leb}
 use lib.ListN.{length, take, drop, length-drop}
 use lib.Seq.{drop-drop}
@@ -17,7 +16,8 @@ use Rattle.paper.specs.Path.{Step, End}
 use Rattle.paper.specs.Path as P
 use Rattle.paper.proofs.Lists.{and_left, and_right, all_drop}
 use Rattle.path_form.specs.Places.{steps_in, rising}
-use Rattle.path_form.specs.Parsed.{count_of, count_at, no_path, path_of, path_at, ended_of, ended_at}
+use Rattle.std.specs.Prelude.{Option, Some, None}
+use Rattle.path_form.specs.Parsed.{count_of, count_at, path_of, path_at, ended_of, ended_at}
 use Rattle.path_form.specs.declared.Path.{Path}
 use Rattle.path_form.specs.declared.ends.Ended.{Ended}
 use Rattle.fields.proofs.Flat.{flat-yes, flat-short, flat-no, flat-got, within-flat, inside, outside}
@@ -43,15 +43,9 @@ unfolding view seq
 body_reads m t = seq-view (λ l q. (end_field m).read q) (λ y. record { steps = y.0; end = y.1 }) ((such (times m step_field) rise).read t)
 
 -- a path out of its steps and its end as they were parsed
-abbrev pub path_with : ℕ → ℕ → Ended → Path
-path_with at m e = cond e.good (record { good = true; steps = at + 2; count = m; «end» = e.«end»; commitment = e.commitment; next = e.next }) no_path
-
-pub with-good : (at m : ℕ) (e : Ended) → e.good ≡ true
-    → path_with at m e ≡ record { good = true; steps = at + 2; count = m; «end» = e.«end»; commitment = e.commitment; next = e.next }
-with-good at m e h = rw h
-
-pub with-bad : (at m : ℕ) (e : Ended) → e.good ≡ false → path_with at m e ≡ no_path
-with-bad at m e h = rw h
+abbrev pub path_with : ℕ → ℕ → Option Ended → Option Path
+path_with at m None = None
+path_with at m (Some e) = Some (record { steps = at + 2; count = m; «end» = e.«end»; commitment = e.commitment; next = e.next })
 
 -- a count that was read, and the path behind it
 pub record Counted (s : Bytes) (at m : ℕ) : Type 0 where
@@ -78,45 +72,41 @@ module _ (s : Bytes) (at : ℕ) (w : Bytewise s) where
 
   -- ---- the count as it is tested
 
-  pub count-short : length s < at + 2 → count_at s at ≡ 0
+  pub count-short : length s < at + 2 → count_at s at ≡ None
   unfolding count_at
   count-short h = rw (flat-short (within-flat 2 1 256) (drop at s) (all_drop _ at s w) (omega (arith, length-drop at s)))
 
   module _ (m : ℕ) (count : m ≡ number (take 2 (drop at s))) where
-    pub count-high : 256 < m → count_at s at ≡ 0
+    pub count-out : (m < 1) ⊎ (256 < m) → count_at s at ≡ None
     unfolding count_at
-    count-high h = rw (flat-no (within-flat 2 1 256) (drop at s) (all_drop _ at s w) (rw (← count) (outside 1 256 m (inr h))))
+    count-out h = rw (flat-no (within-flat 2 1 256) (drop at s) (all_drop _ at s w) (rw (← count) (outside 1 256 m h)))
 
-    pub count-read : at + 2 ≤ length s → m ≤ 256 → count_at s at ≡ m
+    pub count-read : at + 2 ≤ length s → 1 ≤ m → m ≤ 256 → count_at s at ≡ Some m
     unfolding count_at
-    count-read h l = by (dec_le 1 m)
-      where
-        by : Dec (1 ≤ m) → count_at s at ≡ m
-        by (yes k) = rw (flat-yes (within-flat 2 1 256) (drop at s) (all_drop _ at s w) (omega (arith, length-drop at s)) (rw (← count) (inside 1 256 m k l)), ← count)
-        by (no k) = let z : m ≡ 0 = omega arith in rw (flat-no (within-flat 2 1 256) (drop at s) (all_drop _ at s w) (rw (← count) (outside 1 256 m (inl (omega arith)))), z)
+    count-read h k l = rw (flat-yes (within-flat 2 1 256) (drop at s) (all_drop _ at s w) (omega (arith, length-drop at s)) (rw (← count) (inside 1 256 m k l)), ← count)
 
   -- ---- a path by its count
 
   -- no count, no path
-  pub path-countless : count_at s at ≡ 0 → path_at s at ≡ no_path
+  pub path-countless : count_at s at ≡ None → path_at s at ≡ None
   unfolding count_at path_at led
-  path-countless h = by at_count refl h
+  path-countless h = by at_count h
     where
-      by : (x : Read ℕ) → at_count ≡ x → count_of x ≡ 0 → path_of (length s) at (and_then x (λ k r. (path_body k).read r)) ≡ no_path
-      by bad e h = refl
-      by (got m r) e h = let c = counted m r e in absurd (omega arith)
+      by : (x : Read ℕ) → count_of x ≡ None → path_of (length s) at (and_then x (λ k r. (path_body k).read r)) ≡ None
+      by bad h = refl
+      by (got m r) h = let z : ◌≡◌ {A = ℕ} 0 1 = cc in absurd (omega arith)
 
-  pub path-counted : (m : ℕ) → m ≡ count_at s at → (m ≡ 0 → ⊥) → Counted s at m
+  pub path-counted : (m : ℕ) → count_at s at ≡ Some m → Counted s at m
   unfolding count_at
-  path-counted m c z = by at_count refl c
+  path-counted m c = by at_count refl c
     where
-      by : (x : Read ℕ) → at_count ≡ x → m ≡ count_of x → Counted s at m
-      by bad e c = absurd (z c)
-      by (got k r) e c = rw c (counted k r e)
+      by : (x : Read ℕ) → at_count ≡ x → count_of x ≡ Some m → Counted s at m
+      by bad e c = let z : ◌≡◌ {A = ℕ} 0 1 = cc in absurd (omega arith)
+      by (got k r) e c = let k-is : k ≡ m = cc in subst (Counted s at) k-is (counted k r e)
 
   module _ (m : ℕ) (c : Counted s at m) where
     -- steps that are not all there, or whose lengths do not rise from 0, are none of a path
-    pub path-falls : rising m (drop (at + 2) s) ≡ false → path_at s at ≡ no_path
+    pub path-falls : rising m (drop (at + 2) s) ≡ false → path_at s at ≡ None
     unfolding path_at rising
     path-falls e = rw (c.reads, body_reads m (drop (at + 2) s), (steps-flat m).reads (drop (at + 2) s) (all_drop _ (at + 2) s w), e)
 

@@ -2,16 +2,18 @@
 use mathlib.Core.Path.{◌≡◌, refl, ap, ◌∙◌}
 use mathlib.Core.Logic.{◌⊎◌, inl, inr}
 use mathlib.Core.Bool.{true, false}
-use mathlib.Core.List.{[], ◌∷◌}
-use Prim.Native.Nat.{ℕ, zero, suc, ◌+◌, ◌-◌, ◌*◌, ◌≤◌, ◌<◌}
+use mathlib.Core.List.{List, [], ◌∷◌}
+use Prim.Native.Nat.{ℕ, zero, suc, ◌+◌, ◌-◌, ◌*◌, ◌/◌, ◌≤◌, ◌<◌}
 use native.Mathlib.Omega.{arith}
 use native.Mathlib.Numerals.{add-one}
 use lib.Dec.{leb}
-use lib.ListN.{length, take, drop, length-drop, drop_of_length-le}
-use lib.Seq.{drop-drop}
+use lib.ListN.{length, take, drop, get_or, length-drop, drop_of_length-le}
+use lib.Seq.{drop-drop, take-take}
+use Rattle.std.specs.Simd.{first_chunks}
+use Rattle.ranges.proofs.Slices.{length_part}
 use borrow.Author.Tests.{le-leb, lt-leb, leb-true}
 use Rattle.paper.specs.Bytes.{Bytes, number}
-use Rattle.paper.proofs.Lists.{and_left}
+use Rattle.paper.proofs.Lists.{and_left, drop-take}
 use Rattle.paper.specs.Path.{last_length}
 use Rattle.path_form.specs.Places.{step_in, steps_in, ranged, rising}
 use Rattle.fields.proofs.Flat.{and-false}
@@ -35,6 +37,28 @@ step-at s at i m h = rw (add-one i, ← (drop-drop (34 * i) at s)) (from_step i 
 
 pub no_more : (i m : ℕ) (t : Bytes) → m ≤ i → drop i (steps_in m t) ≡ []
 no_more i m t h = drop_of_length-le (steps_in m t) {i = i} (omega (arith, steps-length m t))
+
+-- the steps as chunks of 34 bytes: the length of each
+chunk-number : (n : ℕ) (t : Bytes) (i : ℕ) → i < n → take 2 (get_or (first_chunks 34 n t) i []) ≡ take 2 (drop (34 * i) t)
+chunk-number zero t i h = absurd (omega arith)
+chunk-number (suc n) t zero h = take-take 2 34 t (omega arith)
+chunk-number (suc n) t (suc i) h =
+    let e : 34 + 34 * i ≡ 34 * suc i = omega arith in
+    chunk-number n (drop 34 t) i (omega arith) ∙ ap (take 2) (drop-drop (34 * i) 34 t ∙ ap (λ k. drop k t) e)
+
+module _ (s : Bytes) (at m : ℕ) (room : at + 34 * m ≤ length s) where
+  abbrev part : Bytes
+  part = take (at + 34 * m - at) (drop at s)
+
+  pub chunks-many : length part / 34 ≡ m
+  chunks-many = omega (arith, length_part s at (at + 34 * m - at) (omega arith))
+
+  pub step-number : (c : List Bytes) → c ≡ first_chunks 34 (length part / 34) part → (i : ℕ) → i < m → number (take 2 (get_or c i [])) ≡ number (take 2 (drop (at + 34 * i) s))
+  step-number c is i h =
+      let e : at + 34 * m - at ≡ 34 * m = omega arith in
+      ap (λ c. number (take 2 (get_or c i []))) (is ∙ ap (λ k. first_chunks 34 k part) chunks-many)
+      ∙ ap number (chunk-number m part i h ∙ ap (λ k. take 2 (drop (34 * i) (take k (drop at s)))) e
+      ∙ ap (take 2) (drop-take (34 * i) (34 * m) (drop at s)) ∙ take-take 2 (34 * m - 34 * i) (drop (34 * i) (drop at s)) (omega arith) ∙ ap (take 2) (drop-drop (34 * i) at s))
 
 -- the last step's length
 last_step : (m : ℕ) (t : Bytes) → last_length (steps_in (suc m) t) ≡ number (take 2 (drop (34 * m) t))

@@ -2,7 +2,7 @@
 use Rattle.std.specs.Prelude.{◌≡◌, Bool, true, not, ◌&&◌, List, [], ◌∷◌, ℕ, zero, suc, ◌+◌, ◌*◌, ◌≤◌, ◌<◌, leb, length, take, drop}
 use Rattle.paper.specs.Lists.{every}
 use Rattle.paper.specs.Numbers.{wide}
-use Rattle.paper.specs.Bytes.{Bytes, number}
+use Rattle.paper.specs.Bytes.{Bytes, zeros, number}
 use Rattle.paper.specs.Bits.{Bits, bits_of, pack}
 use Rattle.paper.specs.Tree.{digest}
 use Rattle.paper.specs.Path.{Step, step_node, this, other, off, none}
@@ -28,6 +28,13 @@ end_in s Nothing = none
 
 abbrev pub path_in : Bytes → Path → P.Path
 path_in s p = record { steps = steps_in p.count (drop p.steps s); end = end_in s p.«end» }
+
+-- the commitment of "this leaf"; the other ends show none
+abbrev pub commitment_of : P.End → Bytes
+commitment_of (this c e) = c
+commitment_of (other m c e) = zeros wide
+commitment_of (off p l r) = zeros wide
+commitment_of none = zeros wide
 
 -- "Lengths begin at 0, rise strictly and are at most 255": the first is from low to high, and the others rise from it to 255
 unfoldable pub ranged : ℕ → ℕ → List Step → Bool
@@ -73,3 +80,4 @@ pub record PathStands (s : Bytes) (p : Path) : Type 0 where
   pub room : p.steps + 34 * p.count ≤ length s
   pub each : (i : ℕ) → i < p.count → StepStands s (p.steps + 34 * i)
   pub last : EndStands s p.«end»
+  pub shown : p.commitment ≡ commitment_of (end_in s p.«end»)

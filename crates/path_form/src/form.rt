@@ -1,37 +1,24 @@
 // The form of a path: "count m (2 bytes, 1 to 256); m steps of prefix length (2) and sibling digest (32); end kind (1)".
 ghost use Rattle.std.specs.Prelude.{◌≡◌, ◌≤◌, length, drop};
-ghost use Rattle.path_form.specs.Parsed.{count_at, no_path, path_at};
+ghost use Rattle.path_form.specs.Parsed.{count_at, path_at};
 ghost use Rattle.path_form.specs.Places.{rising};
 
-use crate::ends::end_at;
+use crate::ends::{Ended, end_at};
 use crate::{End, Path};
 use words::read16;
 
-fn no_path() -> Path
-    ensures { result ≡ no_path }
-{
-    Path {
-        good: false,
-        steps: 0,
-        count: 0,
-        end: End::Nothing,
-        commitment: [0u8; 32],
-        next: 0,
-    }
-}
-
-// "count m (2 bytes, 1 to 256)", and 0 where there is none
-fn count_at(s: &[u8], at: usize) -> usize
+// "count m (2 bytes, 1 to 256)"
+fn count_at(s: &[u8], at: usize) -> Option<usize>
     ensures { result ≡ count_at s.now at }
 {
     if s.len() < 2 || s.len() - 2 < at {
-        return 0;
+        return None;
     }
     let count = read16(s, at) as usize;
-    if 256 < count {
-        return 0;
+    if count < 1 || 256 < count {
+        return None;
     }
-    count
+    Some(count)
 }
 
 // "m steps", whose "Lengths begin at 0, rise strictly and are at most 255": each is from `low` to `high`.
@@ -42,10 +29,12 @@ fn rises(s: &[u8], at: usize, m: usize) -> bool
     if s.len() - at < 34 * m {
         return false;
     }
+    let after = at + 34 * m;
+    let (steps, _) = s[at..after].as_chunks::<34>();
     let mut low = 0;
     let mut high = 0;
-    for i in 0..m {
-        let length = read16(s, at + 34 * i);
+    for step in steps {
+        let length = read16(step, 0);
         if length < low || high < length {
             return false;
         }
@@ -56,29 +45,24 @@ fn rises(s: &[u8], at: usize, m: usize) -> bool
 }
 
 // The path that stands in `s` from `at` on.
-pub fn parse(s: &[u8], at: usize) -> Path
+pub fn parse(s: &[u8], at: usize) -> Option<Path>
     ensures { result ≡ path_at s.now at }
 {
-    let count = count_at(s, at);
-    if count == 0 {
-        return no_path();
-    }
+    let count = count_at(s, at)?;
     let steps = at + 2;
     if !rises(s, steps, count) {
-        return no_path();
+        return None;
     }
-    let ended = end_at(s, steps + 34 * count, count);
-    if !ended.good {
-        return no_path();
-    }
-    let end = ended.end;
-    let commitment = ended.commitment;
-    Path {
-        good: true,
+    let Ended {
+        end,
+        commitment,
+        next,
+    } = end_at(s, steps + 34 * count, count)?;
+    Some(Path {
         steps,
         count,
         end,
         commitment,
-        next: ended.next,
-    }
+        next,
+    })
 }

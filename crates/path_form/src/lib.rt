@@ -16,10 +16,10 @@ pub enum End {
     Nothing,
 }
 
-// A parsed path: where its steps stand and how many there are, its end, the commitment of "this leaf", and the place behind it.
+// A parsed path: where its steps stand and how many there are, its end, beside it the commitment of "this leaf" (document 01's form for a
+// path, docs/DECISIONS.md), and the place behind it.
 #[derive(Clone, Copy)]
 pub struct Path {
-    pub good: bool,
     pub steps: usize,
     pub count: usize,
     pub end: End,

@@ -1,8 +1,9 @@
 -- Paths one by one. Assumes nothing.
 use mathlib.Core.Path.{◌≡◌, refl, sym, ap, ap₂, ◌∙◌, subst}
-use mathlib.Core.Bool.{true, not, ◌&&◌, ◌||◌}
+use mathlib.Core.Bool.{Bool, true, false, not, ◌&&◌, ◌||◌, and-false}
 use mathlib.Core.List.{List, [], ◌∷◌, ◌++◌, map, map-append}
-use Prim.Native.Nat.{ℕ, suc, ◌+◌, ◌≤◌, ◌<◌}
+use Prim.Native.Nat.{ℕ, zero, suc, ◌+◌, ◌≤◌, ◌<◌}
+use Rattle.std.proofs.Common.{Option, Some, None}
 use native.Mathlib.Nat.{add-zero}
 use native.Mathlib.Omega.{arith}
 use lib.ListN.{length, take, drop, get_or, length-append, take-append-drop}
@@ -19,17 +20,43 @@ use Rattle.paper.specs.Table.{holds}
 use Rattle.paper.specs.Shows as P
 use Rattle.paper.proofs.Pasted.{pasted-none}
 use Rattle.table.proofs.Own.{every-snoc}
-use Rattle.plan.specs.Asked.{place_of, asked}
+use Rattle.plan.specs.Asked.{place_of, asked, label_of}
+use Rattle.plan.specs.declared.Place.{Place}
+use Rattle.plan.specs.declared.Place.TheVariants.{InAll, InOld, AsMarker}
 use Rattle.plan.specs.declared.Asked.{Asked}
+use Rattle.leaf_row.specs.Row.{as_nodes}
+use Rattle.tree.specs.Stored.{Sorted, Kept}
+use Rattle.forest.specs.declared.Trees.{Trees}
 use Rattle.plan.proofs.Places.{place-back}
 use Rattle.path_fields.specs.Written.{Wrote}
 use Rattle.path_fields.proofs.Writing.{times-append, times-one, wrote-next}
-use Rattle.paths.specs.Paths.{label_of, wanted, leaves_for, path_for, free_for, path_bytes, Sized, Joined, Measured}
-use Rattle.paths.specs.declared.Measure.{Measure}
+use Rattle.paths.specs.Paths.{wanted, leaves_for, path_for, free_for, path_bytes, Sized, tree_for, all_of, old_of, Ordered, Ready}
 
 -- what the plan asks is what is wanted
 pub wanted-back : (a : P.Asked) → wanted (asked a) ≡ a
 wanted-back a = ap (λ (x : P.Place). record { place = x; there = a.there }) (place-back a.place)
+
+every-fails : {A : Type 0} (f : A → Bool) (l : List A) (i : ℕ) (d : A) → i < length l → f (get_or l i d) ≡ false → every f l ≡ false
+unfolding every
+every-fails f [] i d h e = absurd (omega arith)
+every-fails f (x ∷ l) zero d h e = rw e
+every-fails f (x ∷ l) (suc i) d h e = rw (every-fails f l i d (omega arith) e) (and-false (f x))
+
+-- the tree of a place is in order, or stored, over the leaves of the place
+pub tree-sorted : (t : Trees) (name : Bytes) (x : Place) → Ordered t name → Sorted (as_nodes (tree_for t x).leaves.now)
+tree-sorted t name (InAll i) w = w.all
+tree-sorted t name (InOld i) w = w.old
+tree-sorted t name (AsMarker j) w = w.all
+
+pub tree-kept : (t : Trees) (name : Bytes) (x : Place) → Ready t name → Kept (tree_for t x)
+tree-kept t name (InAll i) w = w.all
+tree-kept t name (InOld i) w = w.old
+tree-kept t name (AsMarker j) w = w.all
+
+pub tree-leaves : (t : Trees) (name : Bytes) (x : Place) → as_nodes (tree_for t x).leaves.now ≡ leaves_for name (all_of t) (old_of t) (place_of x)
+tree-leaves t name (InAll i) = refl
+tree-leaves t name (InOld i) = refl
+tree-leaves t name (AsMarker j) = refl
 
 -- ---- more and more of them
 
@@ -39,12 +66,10 @@ module _ (name : Bytes) (A O : List Node) where
     pub path-is : way (bits_of label) (root S) ≡ path_for name A O (wanted a)
     path-is = ap₂ (λ l T. way (bits_of l) (root T)) e f
 
-    pub measured-in : (r : Measure) → Sized S label a.there r → Measured name A O (wanted a) r
-    measured-in r m = record {
-      clear = m.clear ∙ ap₂ (λ l T. a.there || not (holds (bits_of l) T)) e f;
-      size = m.size ∙ ap (λ x. length (path_field.bytes x)) path-is;
-      most = m.most;
-    }
+    pub measured-in : (r : Option ℕ) → Sized (a.there || not (holds (bits_of label) S)) (path_field.bytes (way (bits_of label) (root S))) r → Sized (free_for name A O (wanted a)) (path_field.bytes (path_for name A O (wanted a))) r
+    measured-in r m =
+        let free = ap₂ (λ l T. a.there || not (holds (bits_of l) T)) e f in
+        rw (← free, ← path-is) m
 
     pub wrote-in : (o u : Bytes) (at r : ℕ) → Wrote o at (path_field.bytes (way (bits_of label) (root S))) u r → Wrote o at (path_field.bytes (path_for name A O (wanted a))) u r
     wrote-in o u at r w = subst (λ x. Wrote o at (path_field.bytes x) u r) path-is w
@@ -92,12 +117,16 @@ module _ (name : Bytes) (A O : List Node) where
     free_more = ap (every (free_for name A O)) (take-suc l i d h) ∙ every-snoc (free_for name A O) (take i l) (get_or l i d)
 
     -- one more is measured
-    pub sum_more : (x y r : Measure) → (x.clear ≡ every (free_for name A O) (take i l)) → (x.size ≡ length (path_bytes name A O (take i l))) → Measured name A O (get_or l i d) y → Joined x y r
-        → (r.clear ≡ every (free_for name A O) (take (suc i) l)) × (r.size ≡ length (path_bytes name A O (take (suc i) l)))
-    sum_more x y r c s m j = (
-      j.clear ∙ ap₂ (λ b c. b && c) c m.clear ∙ sym free_more,
-      omega (arith, j.size, s, m.size, ap length bytes-more, length-append (path_bytes name A O (take i l)) (path_field.bytes (path_for name A O (get_or l i d)))),
+    pub sum_more : (n k : ℕ) → every (free_for name A O) (take i l) ≡ true → n ≡ length (path_bytes name A O (take i l)) → Sized (free_for name A O (get_or l i d)) (path_field.bytes (path_for name A O (get_or l i d))) (Some k)
+        → (every (free_for name A O) (take (suc i) l) ≡ true) × (n + k ≡ length (path_bytes name A O (take (suc i) l)))
+    sum_more n k c s m = (
+      free_more ∙ ap₂ (λ b c. b && c) c m.measured.0,
+      omega (arith, s, m.measured.1, ap length bytes-more, length-append (path_bytes name A O (take i l)) (path_field.bytes (path_for name A O (get_or l i d)))),
     )
+
+    -- or its label is to be shown absent and is there
+    pub one_there : Sized (free_for name A O (get_or l i d)) (path_field.bytes (path_for name A O (get_or l i d))) None → every (free_for name A O) l ≡ false
+    one_there m = every-fails (free_for name A O) l i d h m.measured
 
     -- one more is written
     pub wrote-more : (o v u : Bytes) (at mid r : ℕ) → at ≤ length o → Wrote o at (path_bytes name A O (take i l)) v mid → Wrote v mid (path_field.bytes (path_for name A O (get_or l i d))) u r

@@ -2,24 +2,24 @@
 // proof's whole length is tested against the output, and then written one behind the other.
 #![tactic(auto)]
 
-mod places;
 mod sizes;
 mod write;
 
+ghost use Rattle.std.specs.Prelude.{◌≡◌};
+ghost use Rattle.paths.specs.Paths.{tree_for};
+
+use forest::Trees;
+use plan::Place;
 pub use sizes::measure_paths;
+use tree::StoredTree;
 pub use write::write_paths;
 
-// Which paths a proof has: those of a history or of a lookup, its number, and its epoch.
-#[derive(Clone, Copy)]
-pub struct Plan {
-    pub history: bool,
-    pub number: u16,
-    pub epoch: u32,
-}
-
-// Whether no label that is to be shown absent is there, and how many bytes paths have.
-#[derive(Clone, Copy)]
-pub struct Measure {
-    pub clear: bool,
-    pub size: usize,
+// The tree of a place.
+fn tree_of<'a>(trees: &'a Trees<'a>, place: Place) -> &'a StoredTree<'a>
+    ensures { result.now ≡ tree_for trees.now place }
+{
+    match place {
+        Place::InAll(_) | Place::AsMarker(_) => &trees.all,
+        Place::InOld(_) => &trees.old,
+    }
 }

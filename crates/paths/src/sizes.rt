@@ -1,71 +1,50 @@
-// How many bytes the paths have, and whether each label that is to be shown absent is absent.
-ghost use Rattle.std.specs.Prelude.{◌≡◌, ◌≤◌, length};
-ghost use Rattle.paper.specs.Level.{leaves_in};
+// How many bytes the paths have, where each label that is to be shown absent is absent.
+ghost use Rattle.std.specs.Prelude.{◌≡◌, not, ◌||◌, ◌≤◌, length};
+ghost use Rattle.paper.specs.Lists.{every};
+ghost use Rattle.paper.specs.Bits.{bits_of};
+ghost use Rattle.paper.specs.Tree.{root};
+ghost use Rattle.paper.specs.Path as P;
+ghost use Rattle.paper.specs.Fields.{path_field};
+ghost use Rattle.paper.specs.Table.{holds};
+ghost use Rattle.leaf_row.specs.Row.{as_nodes};
 ghost use Rattle.tree.specs.Stored.{Sorted};
-ghost use Rattle.paths.specs.Paths.{asked_of, wanted, Sized, Measured, Joined, Ready, MeasuredAll};
+ghost use Rattle.plan.specs.Asked.{asked_of};
+ghost use Rattle.paths.specs.Paths.{wanted, path_for, free_for, path_bytes, all_of, old_of, Ordered, Measured, Sized};
 
-use crate::places::{asked_of, label_of, paths_of};
-use crate::{Measure, Plan};
-use forest::Grown;
-use plan::{Asked, Place};
+use crate::tree_of;
+use forest::Trees;
+use plan::{Asked, Plan};
+use tree::StoredTree;
 use tree_path::{is_there, path_length};
 
 // A label's path in a tree. "or a label to be shown absent is there"
-fn measure_in(row: &[u8], tree: Grown, label: &[u8; 32], there: bool) -> Measure
-    requires { Sorted tree.leaves row.now × (length label.now ≡ 32) }
-    ensures { Sized (leaves_in tree.leaves row.now) label.now there result }
+fn measure_in(tree: &StoredTree<'_>, label: &[u8; 32], there: bool) -> Option<usize>
+    requires { Sorted (as_nodes tree.now.leaves.now) }
+    ensures { Sized (there || not (holds (bits_of label.now) (as_nodes tree.now.leaves.now))) (path_field.bytes (P.way (bits_of label.now) (root (as_nodes tree.now.leaves.now)))) result }
 {
-    let size = path_length(row, tree.leaves, label);
-    if there {
-        return Measure { clear: true, size };
+    if !there && is_there(tree.leaves, label) {
+        return None;
     }
-    Measure {
-        clear: !is_there(row, tree.leaves, label),
-        size,
-    }
+    Some(path_length(tree.leaves, label))
 }
 
 // The path for what is asked, in the tree of its place.
-fn measure_path(all: &[u8], a: Grown, old: &[u8], o: Grown, name: &[u8], asked: Asked) -> Measure
-    requires { Ready all.now a old.now o name.now }
-    ensures { Measured name.now (leaves_in a.leaves all.now) (leaves_in o.leaves old.now) (wanted asked) result }
+fn measure_path(trees: &Trees<'_>, name: &[u8], asked: Asked) -> Option<usize>
+    requires { Ordered trees.now name.now }
+    ensures { Sized (free_for name.now (all_of trees.now) (old_of trees.now) (wanted asked)) (path_field.bytes (path_for name.now (all_of trees.now) (old_of trees.now) (wanted asked))) result }
 {
-    let place = asked.place;
-    let there = asked.there;
-    let label = label_of(place, name);
-    match place {
-        Place::InAll(_) => measure_in(all, a, &label, there),
-        Place::InOld(_) => measure_in(old, o, &label, there),
-        Place::AsMarker(_) => measure_in(all, a, &label, there),
-    }
-}
-
-// Both together.
-fn joined(x: Measure, y: Measure) -> Measure
-    requires { (x.size ≤ 4000000000) × (y.size ≤ 8805) }
-    ensures { Joined x y result }
-{
-    let size = x.size + y.size;
-    if x.clear {
-        return Measure {
-            clear: y.clear,
-            size,
-        };
-    }
-    Measure { clear: false, size }
+    let Asked { place, there } = asked;
+    measure_in(tree_of(trees, place), &place.label(name), there)
 }
 
 // All paths that are asked.
-pub fn measure_paths(all: &[u8], a: Grown, old: &[u8], o: Grown, name: &[u8], plan: Plan) -> Measure
-    requires { Ready all.now a old.now o name.now × (length (asked_of plan) ≤ 200000) }
-    ensures { MeasuredAll name.now (leaves_in a.leaves all.now) (leaves_in o.leaves old.now) (asked_of plan) result }
+pub fn measure_paths(trees: &Trees<'_>, name: &[u8], plan: Plan) -> Option<usize>
+    requires { Ordered trees.now name.now × (length (asked_of plan) ≤ 200000) }
+    ensures { Measured (every (free_for name.now (all_of trees.now) (old_of trees.now)) (asked_of plan)) (path_bytes name.now (all_of trees.now) (old_of trees.now) (asked_of plan)) result }
 {
-    let mut sum = Measure {
-        clear: true,
-        size: 0,
-    };
-    for i in 0..paths_of(plan) {
-        sum = joined(sum, measure_path(all, a, old, o, name, asked_of(plan, i)));
+    let mut sum = 0;
+    for i in 0..plan.paths() {
+        sum += measure_path(trees, name, plan.asked(i))?;
     }
-    sum
+    Some(sum)
 }

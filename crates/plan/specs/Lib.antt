@@ -1,2 +1,3 @@
 -- What the contracts cite.
 pub mod Asked
+pub mod Kinds

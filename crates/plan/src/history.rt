@@ -24,8 +24,7 @@ pub fn markers_of(n: u32) -> usize
 pub fn markers_by(epoch: u32) -> usize
     ensures { result ≡ markers_by epoch }
 {
-    let marks = markers_of(epoch);
-    if marks < 10 { marks } else { 10 }
+    markers_of(epoch).min(10)
 }
 
 // How many paths a history of n versions at an epoch has.
@@ -35,11 +34,7 @@ pub fn history_paths(n: u16, epoch: u32) -> usize
     let marks = markers_of(n as u32);
     let most = markers_by(epoch);
     let numbers = n as usize + ((1usize << marks) - 1);
-    if marks < most {
-        numbers + most
-    } else {
-        numbers + marks
-    }
+    numbers + marks.max(most)
 }
 
 // What the i-th path is asked to show, from 0. Past the last it is version 0 absent, for which no proof asks.

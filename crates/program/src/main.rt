@@ -12,8 +12,5 @@ fn room() -> [u8; 65537] {
 fn main(rt: HostRuntime) {
     let mut input = room();
     let n = read_full(&mut rt.stdin(), &mut input);
-    let text = program_line(&input[..n]);
-    let bytes = text.bytes;
-    let length = text.length;
-    write_all(&mut rt.stdout(), &bytes[..length]);
+    write_all(&mut rt.stdout(), program_line(&input[..n]).as_bytes());
 }

@@ -10,7 +10,7 @@ ghost use Rattle.promises.specs.Kept as K;
 use audit::check_audit;
 use history::check_history;
 use lookup::{accepted_key, check_lookup};
-use paper::{AuditAnswer, HistoryAnswer, LookupAnswer, State, WriteAnswer};
+use paper::{AuditAnswer, HistoryAnswer, LookupAnswer, State};
 use ranges::same;
 use write_audit::write_audit;
 use write_proof::{write_history, write_lookup};
@@ -37,13 +37,9 @@ pub fn lookup_kept(
     requires { Left plain records.now heads.now state }
     ensures { record { answer = result; out = out.new } ≡ K.lookup_kept plain records.now heads.now state out.old name.now epoch }
 {
-    match write_lookup(records, heads, state, name, epoch, out) {
-        WriteAnswer::Refused { number, state: _ } => LookupAnswer::Refused(number),
-        WriteAnswer::Written { length, state: _ } => {
-            let head = head_at(heads, epoch);
-            check_lookup(head, name, &out[..length])
-        }
-    }
+    let written = write_lookup(records, heads, state, name, epoch, out)?;
+    let head = head_at(heads, epoch);
+    check_lookup(head, name, &out[..written.length])
 }
 
 // Whether the key that a lookup gives is this one.
@@ -59,19 +55,14 @@ pub fn key_kept(
     requires { Left plain records.now heads.now state }
     ensures { record { answer = result; out = out.new } ≡ K.key_kept plain records.now heads.now state out.old name.now epoch key.now }
 {
-    match write_lookup(records, heads, state, name, epoch, out) {
-        WriteAnswer::Refused {
-            number: _,
-            state: _,
-        } => false,
-        WriteAnswer::Written { length, state: _ } => {
-            let head = head_at(heads, epoch);
-            same(accepted_key(head, name, &out[..length]), key)
-        }
-    }
+    let Ok(written) = write_lookup(records, heads, state, name, epoch, out) else {
+        return false;
+    };
+    let head = head_at(heads, epoch);
+    same(accepted_key(head, name, &out[..written.length]), key)
 }
 
-// A history, at the head of its epoch.
+// A history, at the head of its epoch. Beside `lookup_kept`: each promise names its own writer, checker and answer.
 pub fn history_kept(
     records: &[u8],
     heads: &[u8],
@@ -83,13 +74,9 @@ pub fn history_kept(
     requires { Left plain records.now heads.now state }
     ensures { record { answer = result; out = out.new } ≡ K.history_kept plain records.now heads.now state out.old name.now epoch }
 {
-    match write_history(records, heads, state, name, epoch, out) {
-        WriteAnswer::Refused { number, state: _ } => HistoryAnswer::Refused(number),
-        WriteAnswer::Written { length, state: _ } => {
-            let head = head_at(heads, epoch);
-            check_history(head, name, &out[..length])
-        }
-    }
+    let written = write_history(records, heads, state, name, epoch, out)?;
+    let head = head_at(heads, epoch);
+    check_history(head, name, &out[..written.length])
 }
 
 // The audit of the step into an epoch, from the head before it to its own.
@@ -103,12 +90,8 @@ pub fn audit_kept(
     requires { Left plain records.now heads.now state }
     ensures { record { answer = result; out = out.new } ≡ K.audit_kept plain records.now heads.now state out.old epoch }
 {
-    match write_audit(records, heads, state, epoch, out) {
-        WriteAnswer::Refused { number, state: _ } => AuditAnswer::Refused(number),
-        WriteAnswer::Written { length, state: _ } => {
-            let before = head_at(heads, epoch - 1);
-            let after = head_at(heads, epoch);
-            check_audit(before, after, &out[..length])
-        }
-    }
+    let written = write_audit(records, heads, state, epoch, out)?;
+    let before = head_at(heads, epoch - 1);
+    let after = head_at(heads, epoch);
+    check_audit(before, after, &out[..written.length])
 }

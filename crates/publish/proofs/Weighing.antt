@@ -30,7 +30,7 @@ use Rattle.batch.proofs.Places.{updates-length, in-updates}
 use Rattle.batch.proofs.Form.{batch-read, batch-formed, batch-lies, update-told}
 use Rattle.new_epoch.specs.Prepared.{new_records, numbered}
 use Rattle.new_epoch.specs.Headed.{apart}
-use Rattle.publish.specs.Weighed.{input_good, Good, Clear, Laid, Tested}
+use Rattle.publish.specs.Weighed.{input_good, Good, Clear, Laid}
 use Rattle.publish.proofs.Tests.{out-of-bounds, out-of-layout, out-of-shape, twice, full, clash, passed}
 
 module _ (records heads : Bytes) (count epoch : ℕ) (batch : Bytes) where
@@ -42,11 +42,6 @@ module _ (records heads : Bytes) (count epoch : ℕ) (batch : Bytes) where
 
   abbrev us : List Update
   us = updates_in n batch
-
-  -- a refusal's number is not 0
-  pub refuses : (number : ℕ) (fresh : Bytes) → ¬ (number ≡ 0) → publish plain records heads state batch ≡ unpublished plain records heads state number
-      → Tested records heads state batch fresh number
-  refuses number fresh z e = record { refused = λ _. e; laid = λ q. absurd (z q) }
 
   -- ---- 1
 

@@ -1,5 +1,5 @@
 -- What is found out about a batch before anything is written.
-use Rattle.std.specs.Prelude.{◌≡◌, Bool, true, false, ◌&&◌, List, [], ◌++◌, ℕ, suc, ◌+◌, ◌*◌, ◌/◌, ◌≤◌, ◌<◌, length, take, drop}
+use Rattle.std.specs.Prelude.{◌≡◌, Bool, true, false, ◌&&◌, List, [], ◌++◌, ℕ, suc, Result, Ok, MatchResult, ◌+◌, ◌*◌, ◌/◌, ◌≤◌, ◌<◌, length, take, drop}
 use Rattle.paper.specs.Numbers.{wide, record_size, records_most, update_size, batch_most, heads_most, CLASH}
 use Rattle.paper.specs.Bytes.{Bytes, pasted}
 use Rattle.paper.specs.Labelling.{plain}
@@ -7,10 +7,9 @@ use Rattle.paper.specs.Layout.{times, parse, in_layout, got}
 use Rattle.paper.specs.Table.{Record, update_field, records_within, heads_within, head_digest}
 use Rattle.paper.specs.Publish.{Published, batch_within, unpublished, publish}
 use Rattle.paper.specs.declared.State.{State}
-use Rattle.paper.specs.declared.PublishAnswer.TheVariants as P
+use Rattle.paper.specs.declared.Refusal.{Refusal}
 use Rattle.record.specs.Places.{records_in}
 use Rattle.batch.specs.Places.{updates_in, Lies}
-use Rattle.new_epoch.specs.declared.Weighed.{Weighed}
 use Rattle.new_epoch.specs.Headed.{Plantable, apart}
 
 -- "an argument breaks the bounds or an update's layout": whether none does
@@ -29,7 +28,7 @@ pub record Good (records heads batch : Bytes) : Type 0 where
 -- what publishing leaves, from the new records' bytes and the new head
 abbrev pub leaving : Bytes → Bytes → State → ℕ → Bytes → Bytes → Published
 leaving records heads state n fresh head = record {
-  answer = P.Published (record { count = state.count + n; epoch = suc state.epoch });
+  answer = Ok (record { count = state.count + n; epoch = suc state.epoch });
   records = pasted records (state.count * record_size) (take (n * record_size) fresh);
   heads = pasted heads (suc state.epoch * wide) head;
 }
@@ -57,12 +56,14 @@ pub record Laid (records heads : Bytes) (state : State) (batch fresh : Bytes) : 
   pub clear : apart state.epoch (both_in records state batch fresh) ≡ true → (head : Bytes) → head ≡ head_digest plain heads (suc state.epoch) (both_in records state batch fresh)
       → Clear records heads state batch fresh head
 
--- number 0 says that they do; another is the refusal's
-pub record Tested (records heads : Bytes) (state : State) (batch fresh : Bytes) (r : ℕ) : Type 0 where
-  pub refused : ¬ (r ≡ 0) → publish plain records heads state batch ≡ unpublished plain records heads state r
-  pub laid : r ≡ 0 → Laid records heads state batch fresh
+-- they do, or one refuses
+abbrev pub Tested : Bytes → Bytes → State → Bytes → Bytes → Result (Unit {0}) Refusal → Type 0
+Tested records heads state batch fresh r = MatchResult r
+    (λ _. Laid records heads state batch fresh)
+    (λ e. publish plain records heads state batch ≡ unpublished plain records heads state e)
 
--- number 0 says that nothing does; another is the refusal's
-pub record Weighs (records heads : Bytes) (state : State) (batch fresh : Bytes) (r : Weighed) : Type 0 where
-  pub refused : ¬ (r.number ≡ 0) → publish plain records heads state batch ≡ unpublished plain records heads state r.number
-  pub clear : r.number ≡ 0 → Clear records heads state batch fresh r.head
+-- nothing stands in the way of the new head, or a test refuses
+abbrev pub Weighs : Bytes → Bytes → State → Bytes → Bytes → Result Bytes Refusal → Type 0
+Weighs records heads state batch fresh r = MatchResult r
+    (λ head. Clear records heads state batch fresh head)
+    (λ e. publish plain records heads state batch ≡ unpublished plain records heads state e)

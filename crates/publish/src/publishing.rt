@@ -5,7 +5,7 @@ ghost use Rattle.paper.specs.Labelling.{plain};
 ghost use Rattle.paper.specs.Publish as P;
 
 use crate::weigh::weigh;
-use paper::{PublishAnswer, State};
+use paper::{PublishAnswer, Returned, State};
 use ranges::put;
 
 // Room for the new records, 256 at most.
@@ -37,16 +37,13 @@ pub fn publish(records: &mut [u8], heads: &mut [u8], state: State, batch: &[u8])
     ensures { record { answer = result; records = records.new; heads = heads.new } ≡ P.publish plain records.old heads.old state batch.now }
 {
     let mut fresh = blank();
-    let weighed = weigh(records, heads, state.count, state.epoch, batch, &mut fresh);
-    if weighed.number != 0 {
-        return PublishAnswer::Refused {
-            number: weighed.number,
-            state: state,
-        };
-    }
+    // the state goes back beside a refusal, which `?` alone would not do
+    let head = match weigh(records, heads, state, batch, &mut fresh) {
+        Ok(head) => head,
+        Err(refusal) => return Err(Returned { refusal, state }),
+    };
     let n = batch.len() / 162;
     let size = n * 168;
-    let head = weighed.head;
     append(records, heads, state, &fresh[..size], &head);
-    PublishAnswer::Published(advanced(state, n))
+    Ok(advanced(state, n))
 }

@@ -1,13 +1,14 @@
 // The tests of publishing before the last one, in their order, and the new records.
 ghost use Rattle.std.specs.Prelude.{◌≡◌, ◌&&◌, ◌+◌, ◌*◌, ◌≤◌, leb, length};
-ghost use Rattle.table.specs.Index.{Indexed};
+ghost use Rattle.table.specs.Index.{Own};
 ghost use Rattle.table.specs.Shape.{Shaped};
 ghost use Rattle.publish.specs.Weighed.{input_good, Good, Tested};
 
 use batch::{in_layout, no_name_twice};
 use bounds::{batch_within, heads_within, records_within};
 use new_epoch::prepare;
-use table::in_shape;
+use paper::{Refusal, State};
+use table::{Index, in_shape};
 
 // "1 INPUT": the bounds of both tables and of the batch, and the layout of each update.
 fn input_good(records: &[u8], heads: &[u8], batch: &[u8]) -> bool
@@ -26,76 +27,56 @@ fn input_good(records: &[u8], heads: &[u8], batch: &[u8]) -> bool
 }
 
 // "6 FULL": whether n records and a head find room.
-fn has_room(records: &[u8], heads: &[u8], count: u32, epoch: u32, n: usize) -> bool
+fn has_room(records: &[u8], heads: &[u8], state: State, n: usize) -> bool
     requires { n ≤ 256 }
-    ensures { result ≡ (leb ((count + n) * 168) (length records.now) && leb ((epoch + 2) * 32) (length heads.now)) }
+    ensures { result ≡ (leb ((state.count + n) * 168) (length records.now) && leb ((state.epoch + 2) * 32) (length heads.now)) }
 {
-    if records.len() < (count as usize + n) * 168 {
+    if records.len() < (state.count as usize + n) * 168 {
         return false;
     }
-    (epoch as usize + 2) * 32 <= heads.len()
+    (state.epoch as usize + 2) * 32 <= heads.len()
 }
 
-// An index over names, empty.
-fn index() -> [u16; 4096] {
-    [0u16; 4096]
-}
-
-// "9, 6": the number of the first that refuses the batch, or 0 and the new records at the start of `fresh`.
+// "9, 6": the first that refuses the batch, or the new records at the start of `fresh`.
 fn lay_out(
-    records: &[u8],
+    index: &Index,
     heads: &[u8],
-    count: u32,
-    epoch: u32,
-    first: &[u16],
-    next: &[u16],
+    state: State,
     batch: &[u8],
     fresh: &mut [u8],
-) -> u8
-    requires { Good records.now heads.now batch.now × Shaped records.now heads.now count epoch × Indexed records.now count first.now next.now × (length fresh.old ≡ 256 * 168) }
-    ensures { Tested records.now heads.now (record { count = count; epoch = epoch }) batch.now fresh.new result }
+) -> Result<(), Refusal>
+    requires { Good index.now.records.now heads.now batch.now × Shaped index.now.records.now heads.now state.count state.epoch × Own index.now × (index.now.count ≡ state.count) × (length fresh.old ≡ 256 * 168) }
+    ensures { Tested index.now.records.now heads.now state batch.now fresh.new result }
 {
     let n = batch.len() / 162;
     if !no_name_twice(batch, n) {
-        return 9;
+        return Err(Refusal::Twice);
     }
-    if !has_room(records, heads, count, epoch, n) {
-        return 6;
+    if !has_room(index.records, heads, state, n) {
+        return Err(Refusal::Full);
     }
-    if !prepare(
-        records,
-        count as usize,
-        first,
-        next,
-        batch,
-        n,
-        epoch + 1,
-        fresh,
-    ) {
-        return 6;
+    if !prepare(index, batch, n, state.epoch + 1, fresh) {
+        return Err(Refusal::Full);
     }
-    0
+    Ok(())
 }
 
-// "1, 11, 9, 6": the number of the first that refuses, or 0 and the new records at the start of `fresh`.
+// "1, 11, 9, 6": the first that refuses, or the new records at the start of `fresh`.
 pub(crate) fn refusal(
     records: &[u8],
     heads: &[u8],
-    count: u32,
-    epoch: u32,
+    state: State,
     batch: &[u8],
     fresh: &mut [u8],
-) -> u8
+) -> Result<(), Refusal>
     requires { length fresh.old ≡ 256 * 168 }
-    ensures { Tested records.now heads.now (record { count = count; epoch = epoch }) batch.now fresh.new result }
+    ensures { Tested records.now heads.now state batch.now fresh.new result }
 {
     if !input_good(records, heads, batch) {
-        return 1;
+        return Err(Refusal::Input);
     }
-    let mut first = index();
-    let mut next = index();
-    if !in_shape(records, heads, count, epoch, &mut first, &mut next) {
-        return 11;
-    }
-    lay_out(records, heads, count, epoch, &first, &next, batch, fresh)
+    let Some(index) = in_shape(records, heads, state.count, state.epoch) else {
+        return Err(Refusal::Table);
+    };
+    lay_out(&index, heads, state, batch, fresh)
 }

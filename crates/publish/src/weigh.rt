@@ -4,30 +4,27 @@ ghost use Rattle.std.specs.Prelude.{◌≡◌, ◌*◌, length};
 ghost use Rattle.publish.specs.Weighed.{Weighs};
 
 use crate::testing::refusal;
-use new_epoch::{Weighed, head_of, refused};
+use new_epoch::head_of;
+use paper::{Refusal, State};
 
-// "Publishing tests 1, 11, 9, 6, 7.": the refusal's number, or 0, the new head, and the new records at the start of `fresh`.
+// "Publishing tests 1, 11, 9, 6, 7.": the first that refuses, or the new head, and the new records at the start of `fresh`.
 pub(crate) fn weigh(
     records: &[u8],
     heads: &[u8],
-    count: u32,
-    epoch: u32,
+    state: State,
     batch: &[u8],
     fresh: &mut [u8],
-) -> Weighed
+) -> Result<[u8; 32], Refusal>
     requires { length fresh.old ≡ 256 * 168 }
-    ensures { Weighs records.now heads.now (record { count = count; epoch = epoch }) batch.now fresh.new result }
+    ensures { Weighs records.now heads.now state batch.now fresh.new result }
 {
-    let number = refusal(records, heads, count, epoch, batch, fresh);
-    if number != 0 {
-        return refused(number);
-    }
+    refusal(records, heads, state, batch, fresh)?;
     head_of(
         records,
-        count as usize,
+        state.count as usize,
         fresh,
         batch.len() / 162,
         heads,
-        epoch,
+        state.epoch,
     )
 }

@@ -1,13 +1,13 @@
 -- Laws of the two tests of strings. Assumes nothing.
 use mathlib.Core.Path.{◌≡◌, refl, ap}
 use mathlib.Core.Logic.{⊎_elim}
-use mathlib.Core.Bool.{Bool, true, false, ◌&&◌}
+use mathlib.Core.Bool.{Bool, false, ◌&&◌}
 use mathlib.Core.List.{[], ◌∷◌}
-use Prim.Native.Nat.{ℕ, ◌+◌, ◌≤◌, ◌<◌}
-use native.Mathlib.Numerals.{add-one}
+use Prim.Native.Nat.{ℕ}
 use lib.Dec.{eqb}
-use lib.ListN.{length, get_or, drop, drop_of_length-le}
-use lib.Seq.{drop-cons}
+use lib.ListN.{length}
+use Rattle.std.specs.List.{list_all}
+use lib.Pointwise.{pointwise}
 use Rattle.paper.specs.Lists.{every}
 use Rattle.paper.specs.Bytes.{Bytes, same, zeros}
 use Rattle.paper.proofs.Lists.{true-or-false}
@@ -22,15 +22,15 @@ unfolding every same
 zeros-same [] = refl
 zeros-same (b ∷ x) = ap (λ t. eqb b 0 && t) (zeros-same x)
 
--- the rest from place i on: there is none, its first passes, its first does not
-pub every-none : (t : ℕ → Bool) (s : Bytes) (i : ℕ) → length s ≤ i → every t (drop i s) ≡ true
+-- the library's words for the two
+pub every-list_all : (t : ℕ → Bool) (s : Bytes) → list_all t s ≡ every t s
 unfolding every
-every-none t s i h = ap (every t) (drop_of_length-le s h)
+every-list_all t [] = refl
+every-list_all t (b ∷ s) = ap (λ r. t b && r) (every-list_all t s)
 
-pub every-pass : (t : ℕ → Bool) (s : Bytes) (i : ℕ) → i < length s → t (get_or s i 0) ≡ true → every t (drop i s) ≡ every t (drop (i + 1) s)
-unfolding every
-every-pass t s i h e = rw (add-one i, drop-cons s i 0 h, e)
-
-pub every-fail : (t : ℕ → Bool) (s : Bytes) (i : ℕ) → i < length s → t (get_or s i 0) ≡ false → every t (drop i s) ≡ false
-unfolding every
-every-fail t s i h e = rw (drop-cons s i 0 h, e)
+pub pointwise-same : (s t : Bytes) → pointwise eqb s t ≡ same s t
+unfolding same
+pointwise-same [] [] = refl
+pointwise-same [] (y ∷ t) = refl
+pointwise-same (x ∷ s) [] = refl
+pointwise-same (x ∷ s) (y ∷ t) = ap (λ r. eqb x y && r) (pointwise-same s t)

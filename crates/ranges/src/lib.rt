@@ -10,9 +10,7 @@ pub fn put(dst: &mut [u8], at: usize, src: &[u8])
     requires { at + length src.now ≤ length dst.old }
     ensures { dst.new ≡ B.pasted dst.old at src.now }
 {
-    for i in 0..src.len() {
-        dst[at + i] = src[i];
-    }
+    dst[at..at + src.len()].copy_from_slice(src);
 }
 
 // The 32 bytes of `s` from `at` on: a digest, a label, a commitment or an opening.
@@ -21,8 +19,7 @@ pub fn digest_at(s: &[u8], at: usize) -> [u8; 32]
     ensures { result ≡ take 32 (drop at s.now) }
 {
     let mut digest = [0u8; 32];
-    let after = at + 32;
-    put(&mut digest, 0, &s[at..after]);
+    digest.copy_from_slice(&s[at..at + 32]);
     digest
 }
 
@@ -30,25 +27,12 @@ pub fn digest_at(s: &[u8], at: usize) -> [u8; 32]
 pub fn same(a: &[u8], b: &[u8]) -> bool
     ensures { result ≡ B.same a.now b.now }
 {
-    if a.len() != b.len() {
-        return false;
-    }
-    for i in 0..a.len() {
-        if a[i] != b[i] {
-            return false;
-        }
-    }
-    true
+    a == b
 }
 
 // Whether each byte is zero: a filling, a zero commitment, the bits past a prefix.
 pub fn all_zero(s: &[u8]) -> bool
     ensures { result ≡ every (λ b. eqb b 0) s.now }
 {
-    for i in 0..s.len() {
-        if s[i] != 0 {
-            return false;
-        }
-    }
-    true
+    s.iter().all(|b| *b == 0)
 }

@@ -28,7 +28,7 @@ pub fn name_at(s: &[u8], i: usize) -> &[u8]
     filled_at(s, i * 168)
 }
 
-// The version of record i.
+// The version of record i. A function for each number: their widths differ, and `words` says why that is two functions.
 pub fn version_at(s: &[u8], i: usize) -> u16
     requires { Stands s.now i }
     ensures { result ≡ (record_at s.now i).version }

@@ -1,13 +1,7 @@
 -- The answers as C has them: document 01's number, 0 where nothing was refused, and the answer's values in their order, 0 where it has none.
 use Rattle.paper.specs.Bytes.{Bytes}
 use Rattle.paper.specs.Lookup.{key_start, key_length}
-use Rattle.paper.specs.Answer.{Reply, value_at, lookup_reply, history_reply, audit_reply, start_reply, publish_reply, write_reply}
-use Rattle.paper.specs.declared.LookupAnswer.{LookupAnswer}
-use Rattle.paper.specs.declared.HistoryAnswer.{HistoryAnswer}
-use Rattle.paper.specs.declared.AuditAnswer.{AuditAnswer}
-use Rattle.paper.specs.declared.StartAnswer.{StartAnswer}
-use Rattle.paper.specs.declared.PublishAnswer.{PublishAnswer}
-use Rattle.paper.specs.declared.WriteAnswer.{WriteAnswer}
+use Rattle.paper.specs.Answer.{LookupAnswer, HistoryAnswer, AuditAnswer, StartAnswer, PublishAnswer, WriteAnswer, Reply, value_at, lookup_reply, history_reply, audit_reply, start_reply, publish_reply, write_reply}
 use Rattle.results.specs.declared.Lookup.{Lookup}
 use Rattle.results.specs.declared.History.{History}
 use Rattle.results.specs.declared.Audit.{Audit}

@@ -4,7 +4,7 @@ ghost use Rattle.paper.specs.Bytes.{number};
 ghost use Rattle.results.specs.Results.{lookup_result, history_result, audit_result};
 
 use crate::{Audit, History, Lookup};
-use paper::{AuditAnswer, HistoryAnswer, LookupAnswer};
+use paper::{AcceptedLookup, AuditAnswer, HistoryAnswer, LookupAnswer};
 
 // The byte that says how long the key is; a proof that ends before it was not accepted.
 fn key_length(proof: &[u8]) -> usize
@@ -20,11 +20,13 @@ pub fn lookup_result(answer: LookupAnswer, proof: &[u8]) -> Lookup
     ensures { result ≡ lookup_result answer proof.now }
 {
     match answer {
-        LookupAnswer::Found {
-            version,
-            epoch,
-            digests,
-        } => Lookup {
+        Ok(
+            AcceptedLookup::Found {
+                version,
+                epoch,
+                digests,
+            },
+        ) => Lookup {
             number: 0,
             version: version as u32,
             epoch,
@@ -32,67 +34,52 @@ pub fn lookup_result(answer: LookupAnswer, proof: &[u8]) -> Lookup
             key_start: 109,
             key_length: key_length(proof),
         },
-        LookupAnswer::NotRegistered { epoch, digests } => Lookup {
-            number: 0,
-            version: 0,
+        Ok(AcceptedLookup::NotRegistered { epoch, digests }) => Lookup {
             epoch,
             digests,
-            key_start: 0,
-            key_length: 0,
+            ..Lookup::default()
         },
-        LookupAnswer::Refused(n) => Lookup {
-            number: n as u32,
-            version: 0,
-            epoch: 0,
-            digests: 0,
-            key_start: 0,
-            key_length: 0,
+        Err(refusal) => Lookup {
+            number: refusal as u32,
+            ..Lookup::default()
         },
     }
 }
 
-pub fn history_result(answer: HistoryAnswer) -> History
-    ensures { result ≡ history_result answer }
-{
-    match answer {
-        HistoryAnswer::Accepted {
-            versions,
-            epoch,
-            digests,
-        } => History {
-            number: 0,
-            versions: versions as u32,
-            epoch,
-            digests,
-        },
-        HistoryAnswer::Refused(n) => History {
-            number: n as u32,
-            versions: 0,
-            epoch: 0,
-            digests: 0,
-        },
+impl From<HistoryAnswer> for History {
+    ghost from_gives = { λ answer given. given ≡ history_result answer };
+
+    fn from(answer: HistoryAnswer) -> History {
+        match answer {
+            Ok(accepted) => History {
+                number: 0,
+                versions: accepted.versions as u32,
+                epoch: accepted.epoch,
+                digests: accepted.digests,
+            },
+            Err(refusal) => History {
+                number: refusal as u32,
+                ..History::default()
+            },
+        }
     }
 }
 
-pub fn audit_result(answer: AuditAnswer) -> Audit
-    ensures { result ≡ audit_result answer }
-{
-    match answer {
-        AuditAnswer::Accepted {
-            old_epoch,
-            new_epoch,
-            digests,
-        } => Audit {
-            number: 0,
-            old_epoch,
-            new_epoch,
-            digests,
-        },
-        AuditAnswer::Refused(n) => Audit {
-            number: n as u32,
-            old_epoch: 0,
-            new_epoch: 0,
-            digests: 0,
-        },
+impl From<AuditAnswer> for Audit {
+    ghost from_gives = { λ answer given. given ≡ audit_result answer };
+
+    fn from(answer: AuditAnswer) -> Audit {
+        match answer {
+            Ok(accepted) => Audit {
+                number: 0,
+                old_epoch: accepted.old_epoch,
+                new_epoch: accepted.new_epoch,
+                digests: accepted.digests,
+            },
+            Err(refusal) => Audit {
+                number: refusal as u32,
+                ..Audit::default()
+            },
+        }
     }
 }

@@ -5,55 +5,57 @@ ghost use Rattle.results.specs.Results.{start_result, publish_result, write_resu
 use crate::{Published, Written};
 use paper::{PublishAnswer, StartAnswer, WriteAnswer};
 
-pub fn start_result(answer: StartAnswer) -> Published
-    ensures { result ≡ start_result answer }
-{
-    match answer {
-        StartAnswer::Started(state) => Published {
-            number: 0,
-            count: state.count,
-            epoch: state.epoch,
-        },
-        StartAnswer::Refused(n) => Published {
-            number: n as u32,
-            count: 0,
-            epoch: 0,
-        },
+impl From<StartAnswer> for Published {
+    ghost from_gives = { λ answer given. given ≡ start_result answer };
+
+    fn from(answer: StartAnswer) -> Published {
+        match answer {
+            Ok(state) => Published {
+                number: 0,
+                count: state.count,
+                epoch: state.epoch,
+            },
+            Err(refusal) => Published {
+                number: refusal as u32,
+                ..Published::default()
+            },
+        }
     }
 }
 
-pub fn publish_result(answer: PublishAnswer) -> Published
-    ensures { result ≡ publish_result answer }
-{
-    match answer {
-        PublishAnswer::Published(state) => Published {
-            number: 0,
+impl From<PublishAnswer> for Published {
+    ghost from_gives = { λ answer given. given ≡ publish_result answer };
+
+    fn from(answer: PublishAnswer) -> Published {
+        let (number, state) = match answer {
+            Ok(state) => (0, state),
+            Err(returned) => (returned.refusal as u32, returned.state),
+        };
+        Published {
+            number,
             count: state.count,
             epoch: state.epoch,
-        },
-        PublishAnswer::Refused { number, state } => Published {
-            number: number as u32,
-            count: state.count,
-            epoch: state.epoch,
-        },
+        }
     }
 }
 
-pub fn write_result(answer: WriteAnswer) -> Written
-    ensures { result ≡ write_result answer }
-{
-    match answer {
-        WriteAnswer::Written { length, state } => Written {
-            number: 0,
-            count: state.count,
-            epoch: state.epoch,
-            length,
-        },
-        WriteAnswer::Refused { number, state } => Written {
-            number: number as u32,
-            count: state.count,
-            epoch: state.epoch,
-            length: 0,
-        },
+impl From<WriteAnswer> for Written {
+    ghost from_gives = { λ answer given. given ≡ write_result answer };
+
+    fn from(answer: WriteAnswer) -> Written {
+        match answer {
+            Ok(written) => Written {
+                number: 0,
+                count: written.state.count,
+                epoch: written.state.epoch,
+                length: written.length,
+            },
+            Err(returned) => Written {
+                number: returned.refusal as u32,
+                count: returned.state.count,
+                epoch: returned.state.epoch,
+                length: 0,
+            },
+        }
     }
 }

@@ -7,12 +7,5 @@ ghost use Rattle.std.specs.Prelude.{◌≡◌, ◌+◌, leb};
 pub fn has_room(room: usize, front: usize, first: usize, second: usize) -> bool
     ensures { result ≡ leb (front + first + second) room }
 {
-    if room < front {
-        return false;
-    }
-    let left = room - front;
-    if left < first {
-        return false;
-    }
-    second <= left - first
+    front as u128 + first as u128 + second as u128 <= room as u128
 }

@@ -1,63 +1,92 @@
--- Row after row is all that is asked, and the count has room for every row. Assumes nothing.
-use mathlib.Core.Path.{◌≡◌, refl, sym, ap, ◌∙◌}
+-- Row after row is all that is asked. Assumes nothing.
+use mathlib.Core.Path.{◌≡◌, refl, ap, ◌∙◌}
 use mathlib.Core.List.{List, [], ◌∷◌, ◌++◌}
 use Prim.Native.Nat.{ℕ, zero, suc, ◌+◌, ◌*◌, ◌≤◌}
 use native.Mathlib.Omega.{arith}
-use lib.ListN.{length}
-use Rattle.paper.specs.Bytes.{Bytes}
+use Rattle.std.specs.Prelude.{Result, Ok, Err}
+use Rattle.paper.specs.declared.Refusal.{Refusal}
+use Rattle.plan.specs.declared.Place.TheVariants.{InAll, InOld}
+use Rattle.shown.specs.Form.{commitment_in}
 use Rattle.shown.specs.declared.Asked.{Asked}
-use Rattle.walks.specs.Walk.{path_on, walked, walks}
-use Rattle.walks.specs.declared.Walk.{Walk}
-use Rattle.runs.specs.Runs.{onward, used}
-use Rattle.rows.specs.Rows.{row_asks, rows_ask, row_after, Laid, RowReady}
-use Rattle.rows.specs.declared.Rows.{Rows}
-use Rattle.runs.proofs.Going.{used-walks}
-use Rattle.rows.proofs.Order.{row-few}
+use Rattle.walks.specs.Walk.{stepped, walked, walks, Ahead}
+use Rattle.walks.specs.declared.Reader.{Reader}
+use Rattle.walks.proofs.Walked.{step-passed, walks-refused}
+use Rattle.runs.specs.Runs.{epoch_from, lack}
+use Rattle.rows.specs.Rows.{of_version, of_marker, lookup_row, history_row, all_rows}
 
--- one on, and then k on
-on-first : (on : ℕ → ℕ) (at k : ℕ) → onward on (on at) k ≡ onward on at (suc k)
-unfolding onward
-on-first on at zero = refl
-on-first on at (suc k) = ap on (on-first on at k)
+-- a walk over what is asked, and then over more
+walks-append : (l m : List Asked) (r : Result Reader Refusal) → walks (l ++ m) r ≡ walks m (walks l r)
+unfolding walks
+walks-append [] m r = refl
+walks-append (a ∷ l) m r = walks-append l m (walked a r)
 
--- a walk over what is asked, and then over more, from the place behind
-walks-append : (s name : Bytes) (l m : List Asked) (at : ℕ) (w : Walk) → walks s name m (onward (path_on s) at (length l)) (walks s name l at w) ≡ walks s name (l ++ m) at w
-unfolding walks onward
-walks-append s name [] m at w = refl
-walks-append s name (a ∷ l) m at w =
-    ap (λ n. walks s name m n (walks s name l (path_on s at) (walked s name a at w))) (sym (on-first (path_on s) at (length l)))
-    ∙ walks-append s name l m (path_on s at) (walked s name a at w)
+module _ (l m : List Asked) (r : Reader) where
+  pub rows-on : (q : Reader) → walks l (Ok r) ≡ Ok q → walks (l ++ m) (Ok r) ≡ walks m (Ok q)
+  rows-on q e = walks-append l m (Ok r) ∙ ap (walks m) e
 
-module _ (s name : Bytes) (rows : Rows) (w : Walk) where
-  -- where the i-th row stands, and what the rows before it come to
-  abbrev pub place_before : ℕ → ℕ
-  place_before zero = rows.first
-  place_before (suc i) = row_after s rows i (place_before i)
+  pub rows-stop : (e : Refusal) → walks l (Ok r) ≡ Err e → walks (l ++ m) (Ok r) ≡ Err e
+  rows-stop e h = walks-append l m (Ok r) ∙ ap (walks m) h ∙ walks-refused m e
 
-  abbrev pub walk_before : ℕ → Walk
-  walk_before zero = w
-  walk_before (suc i) = walks s name (row_asks s rows i) (place_before i) (walk_before i)
+-- a reader keeps the proof and the name
+pub record Kept (r q : Reader) : Type 0 where
+  pub proof : q.proof ≡ r.proof
+  pub name : q.name ≡ r.name
 
-  module _ (laid : Laid s name rows) (few : used w ≤ 1024) where
-    -- a row has at most 1,024 paths, of at most 258 digests each
-    counted : (i : ℕ) → used (walk_before i) ≤ 1024 + 264192 * i
-    counted zero = omega arith
-    counted (suc i) =
-        omega (arith, counted i, used-walks s name laid.bytes (row_asks s rows i) (place_before i) (walk_before i), row-few s rows.first rows.epoch rows.check rows.number i laid.small)
+pub kept : (l : List Asked) (r q : Reader) → walks l (Ok r) ≡ Ok q → Kept r q
+unfolding walks
+kept [] r q e = let u : q ≡ r = cc in record { proof = ap (λ (x : Reader). x.proof) u; name = ap (λ (x : Reader). x.name) u }
+kept (a ∷ l) r q e = by (stepped a r) refl e (λ p h. kept l p q h)
+  where
+    by : (x : Result Reader Refusal) → stepped a r ≡ x → walks l x ≡ Ok q → ((p : Reader) → walks l (Ok p) ≡ Ok q → Kept p q) → Kept r q
+    by (Err f) h e more = let z : ◌≡◌ {A = ℕ} 0 1 = cc (walks-refused l f) in absurd (omega arith)
+    by (Ok p) h e more =
+        let s = step-passed a r p h in
+        let k = more p e in
+        record { proof = k.proof ∙ s.proof; name = k.name ∙ s.name }
 
-    pub ready : (i : ℕ) → i ≤ 5 → RowReady s name rows i (place_before i) (walk_before i)
-    ready i h = record { laid = laid; room = omega (arith, counted i); start = first i }
-      where
-        first : (i : ℕ) → i ≡ 0 → place_before i ≡ rows.first
-        first zero e = refl
-        first (suc i) e = absurd (omega arith)
+-- and what is left of its room
+pub ahead-behind : (l : List Asked) (r q : Reader) → walks l (Ok r) ≡ Ok q → (c j k : ℕ) → Ahead k r → q.digests ≤ r.digests + 258 * c → c + j ≤ k → Ahead j q
+ahead-behind l r q e c j k h d m =
+    let p = kept l r q e in
+    record { front = rw p.proof h.front; short = rw p.name h.short; room = omega (arith, h.room) }
 
-  -- the last row, behind the five before it
-  pub joined : walk_before 6 ≡ walks s name (rows_ask s rows) rows.first w
-  joined =
-      let asks : ℕ → List Asked = row_asks s rows in
-      walks-append s name (asks 4) (asks 5) (place_before 4) (walk_before 4)
-      ∙ walks-append s name (asks 3) (asks 4 ++ asks 5) (place_before 3) (walk_before 3)
-      ∙ walks-append s name (asks 2) (asks 3 ++ (asks 4 ++ asks 5)) (place_before 2) (walk_before 2)
-      ∙ walks-append s name (asks 1) (asks 2 ++ (asks 3 ++ (asks 4 ++ asks 5))) (place_before 1) (walk_before 1)
-      ∙ walks-append s name (asks 0) (asks 1 ++ (asks 2 ++ (asks 3 ++ (asks 4 ++ asks 5)))) (place_before 0) (walk_before 0)
+pub ahead-step : (a : Asked) (r q : Reader) → stepped a r ≡ Ok q → q.digests ≤ r.digests + 258 → (j k : ℕ) → Ahead k r → j + 1 ≤ k → Ahead j q
+ahead-step a r q e d j k h m =
+    let p = step-passed a r q e in
+    record { front = rw p.proof h.front; short = rw p.name h.short; room = omega (arith, h.room) }
+
+-- what the rows of a history are asked that a reader stands before
+abbrev pub history_asks : Reader → ℕ → ℕ → ℕ → List Asked
+history_asks r t n = history_row r.proof.now r.at t n
+
+-- what is left behind each row
+module _ (f : ℕ → List Asked) where
+  abbrev pub from_1 : List Asked
+  from_1 = f 1 ++ (f 2 ++ (f 3 ++ (f 4 ++ f 5)))
+
+  abbrev pub from_2 : List Asked
+  from_2 = f 2 ++ (f 3 ++ (f 4 ++ f 5))
+
+  abbrev pub from_3 : List Asked
+  from_3 = f 3 ++ (f 4 ++ f 5)
+
+  abbrev pub from_4 : List Asked
+  from_4 = f 4 ++ f 5
+
+-- ---- a lookup's paths
+
+module _ (r : Reader) (t : ℕ) where
+  -- all that the lookup of version v is asked
+  abbrev pub lookup_asks : ℕ → List Asked
+  lookup_asks v = all_rows (lookup_row r.proof.now r.at t v)
+
+  pub lookup-none : (v : ℕ) → v ≡ 0 → stepped (lack (InAll 1)) r ≡ walks (lookup_asks v) (Ok r)
+  unfolding walks
+  lookup-none zero e = refl
+  lookup-none (suc v) e = absurd (omega arith)
+
+  pub lookup-some : (v : ℕ) → (v ≡ 0 → ⊥)
+      → walks (lookup_asks v) (Ok r) ≡ walked (of_marker v (epoch_from r.proof.now r.at 1)) (walked (lack (InOld v)) (stepped (of_version (commitment_in r.proof.now 108) v t) r))
+  unfolding walks
+  lookup-some zero h = absurd (h refl)
+  lookup-some (suc v) h = refl

@@ -1,3 +1,2 @@
--- Laws of the rows.
-pub mod Order
+-- Laws of the rows, for the crates above too.
 pub mod Joined

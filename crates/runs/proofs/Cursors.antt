@@ -1,17 +1,22 @@
 -- Places that move on with a loop, one key or one path a turn, and the epochs there. Assumes nothing.
-use mathlib.Core.Path.{◌≡◌, refl, ap}
-use Prim.Native.Nat.{ℕ, ◌+◌}
-use lib.ListN.{drop}
+use mathlib.Core.Path.{◌≡◌, refl, sym, ap, ◌∙◌}
+use Prim.Native.Nat.{ℕ, ◌+◌, ◌-◌, ◌≤◌}
+use native.Mathlib.Omega.{arith}
+use lib.ListN.{length, drop, length-drop}
 use native.Mathlib.Numerals.{add-one}
 use Rattle.paper.specs.Bytes.{Bytes}
 use Rattle.paper.specs.Layout.{got}
 use Rattle.paper.specs.Fields.{path_field}
 use Rattle.paper.specs.Path.{this, other, off, none, epoch_of}
 use Rattle.paper.specs.Path as P
-use Rattle.path_form.specs.Parsed.{placed, path_at}
-use Rattle.walks.specs.Walk.{path_on}
+use Rattle.path_form.specs.Parsed.{placed, path_of, path_at}
+use Rattle.walks.specs.Walk.{stepped}
+use Rattle.walks.specs.declared.Reader.{Reader}
+use Rattle.walks.proofs.Walked.{step-passed}
+use Rattle.std.specs.Prelude.{Ok}
 use Rattle.runs.specs.declared.Leaf.{Leaf}
-use Rattle.runs.specs.Runs.{end_epoch, onward, item_on, item_at, leaf_at, place_at, epoch_from}
+use Rattle.shown.specs.declared.Asked.{Asked}
+use Rattle.runs.specs.Runs.{end_epoch, leaf_of, onward, item_on, item_at, leaf_at, path_on, place_at, epoch_from}
 
 onward-on : (on : ℕ → ℕ) (start k at : ℕ) → at ≡ onward on start k → on at ≡ onward on start (k + 1)
 unfolding onward
@@ -45,7 +50,7 @@ unfolding epoch_from
 epoch-none s first = refl
 
 -- the epoch of a path's leaf is that of the path that is read there
-pub path-epoch : (s : Bytes) (at : ℕ) (x : P.Path) (r : Bytes) → path_field.read (drop at s) ≡ got x r → end_epoch (path_at s at).«end» ≡ epoch_of x.end
+pub path-epoch : (s : Bytes) (at : ℕ) (x : P.Path) (r : Bytes) → path_field.read (drop at s) ≡ got x r → (leaf_at s at).epoch ≡ epoch_of x.end
 unfolding path_at
 path-epoch s at x r e = rw e (by _ x.end)
   where
@@ -54,3 +59,15 @@ path-epoch s at x r e = rw e (by _ x.end)
     by n (other m c e) = refl
     by n (off p l r) = refl
     by n none = refl
+
+-- what is read at a place tells the place behind it
+pub path-moves : (s : Bytes) (at next : ℕ) (x : P.Path) → next ≤ length s → path_field.read (drop at s) ≡ got x (drop next s) → path_on s at ≡ next
+unfolding path_at
+path-moves s at next x l e = let n : length s - length (drop next s) ≡ next = omega (arith, length-drop next s) in ap (λ x. (leaf_of (path_of (length s) at x)).next) e ∙ n
+
+-- and so does a step over it
+pub step-moves : (a : Asked) (r q : Reader) → stepped a r ≡ Ok q → q.at ≡ path_on r.proof.now r.at
+unfolding path_at
+step-moves a r q h =
+    let p = step-passed a r q h in
+    p.place ∙ sym (ap (λ x. (leaf_of (path_of (length r.proof.now) r.at x)).next) p.reads)

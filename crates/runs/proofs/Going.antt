@@ -1,95 +1,84 @@
 -- A row of paths as a loop takes it: what is left of the row decides, and the count has room for it. Assumes nothing.
 use mathlib.Core.Path.{◌≡◌, refl, sym, ap, ◌∙◌}
-use mathlib.Core.List.{List, [], ◌∷◌, map}
-use Prim.Native.Nat.{ℕ, zero, suc, ◌+◌, ◌-◌, ◌*◌, ◌^◌, ◌≤◌, ◌<◌}
+use mathlib.Core.List.{[], ◌∷◌, map}
+use Prim.Native.Nat.{ℕ, suc, ◌+◌, ◌-◌, ◌*◌, ◌≤◌, ◌<◌}
 use native.Mathlib.Omega.{arith}
 use native.Mathlib.Numerals.{add-one}
 use lib.ListN.{length, length-map}
+use Rattle.std.specs.Prelude.{Ok, Err}
 use Rattle.paper.specs.Lists.{up_from}
-use Rattle.paper.specs.Numbers.{name_most}
-use Rattle.paper.specs.Bytes.{Bytes, Bytewise}
+use Rattle.paper.specs.declared.Refusal.{Refusal}
 use Rattle.paper.proofs.Lists.{up_from-length}
-use Rattle.walks.specs.Walk.{path_on, walked, walks, Ready}
-use Rattle.plan.specs.declared.Place.TheVariants.{InOld}
+use Rattle.walks.specs.Walk.{stepped, walks, Ahead}
+use Rattle.walks.specs.declared.Reader.{Reader}
+use Rattle.walks.proofs.Walked.{step-passed, walks-refused}
 use Rattle.shown.specs.declared.Asked.{Asked}
-use Rattle.walks.specs.declared.Walk.{Walk}
-use Rattle.walks.specs.declared.Walk.TheVariants.{On, Refused}
-use Rattle.walks.proofs.Walked.{Counted, walked-counted, counted_ready}
-use Rattle.runs.specs.Runs.{ask_current, lack, row, used}
-
-counted : (v : Walk) → Counted (used v) v
-counted (On d) = omega arith
-counted (Refused n) = tt
-
-used-counted : (m : ℕ) (v : Walk) → Counted m v → used v ≤ m
-used-counted m (On d) h = h
-used-counted m (Refused n) h = omega arith
+use Rattle.runs.specs.Runs.{row}
 
 pub row-length : (f : ℕ → Asked) (a b : ℕ) → length (row f a b) ≡ b - a
 row-length f a b = length-map (up_from a (b - a)) f ∙ up_from-length a (b - a)
 
-module _ (s name : Bytes) (w : Bytewise s) where
-  -- a path counts at most 258 digests
-  used-walked : (a : Asked) (at : ℕ) (v : Walk) → used (walked s name a at v) ≤ used v + 258
-  used-walked a at v = used-counted (used v + 258) (walked s name a at v) (walked-counted s name w a at (used v) v (walked s name a at v) refl (counted v))
+-- the numbers from a up to b are asked by f, and those up to i were taken
+pub record Going (f : ℕ → Asked) (a b : ℕ) (r₀ : Reader) (i : ℕ) (r : Reader) : Type 0 where
+  pub same : walks (row f a b) (Ok r₀) ≡ walks (row f i b) (Ok r)
+  pub proof : r.proof ≡ r₀.proof
+  pub name : r.name ≡ r₀.name
+  pub count : r.digests + 258 * (b - i) ≤ r₀.digests + 258 * (b - a)
 
-  pub used-walks : (l : List Asked) (at : ℕ) (v : Walk) → used (walks s name l at v) ≤ used v + 258 * length l
-  unfolding walks
-  used-walks [] at v = omega arith
-  used-walks (a ∷ l) at v = omega (arith, used-walked a at v, used-walks l (path_on s at) (walked s name a at v))
+module _ (f : ℕ → Asked) (a b : ℕ) where
+  pub going-starts : (r : Reader) → Going f a b r a r
+  going-starts r = record { same = refl; proof = refl; name = refl; count = omega arith }
 
-pub used-ready : (s name : Bytes) (v : Walk) → 106 ≤ length s → length name ≤ name_most → used v + 258 < 2 ^ 32 → Ready s name v
-used-ready s name v f l r = counted_ready s name (used v) v f l r (counted v)
+  module _ (r₀ : Reader) (i : ℕ) (r : Reader) (g : Going f a b r₀ i r) where
+    pub going-ready : (k : ℕ) → b - a ≤ k → Ahead k r₀ → i < b → Ahead 1 r
+    going-ready k m h l = record { front = rw g.proof h.front; short = rw g.name h.short; room = omega (arith, g.count, h.room) }
 
--- the numbers from a up to b are asked by f, and those up to i were taken: the next path stands at a place
-pub record Going (s name : Bytes) (f : ℕ → Asked) (a b at₀ : ℕ) (v₀ : Walk) (i at : ℕ) (v : Walk) : Type 0 where
-  pub room : used v + 258 * (b - i) < 2 ^ 32
-  pub same : walks s name (row f a b) at₀ v₀ ≡ walks s name (row f i b) at v
-
-module _ (s name : Bytes) (f : ℕ → Asked) (a b : ℕ) where
-  pub going-starts : (at : ℕ) (v : Walk) → used v + 258 * (b - a) < 2 ^ 32 → Going s name f a b at v a at v
-  going-starts at v h = record { room = h; same = refl }
-
-  module _ (at₀ : ℕ) (v₀ : Walk) (i at : ℕ) (v : Walk) (g : Going s name f a b at₀ v₀ i at v) where
-    pub going-ready : 106 ≤ length s → length name ≤ name_most → i < b → Ready s name v
-    going-ready l n h = used-ready s name v l n (omega (arith, g.room))
-
-    pub going_on : Bytewise s → (x : Asked) (t : Walk) (next : ℕ) → i < b → x ≡ f i → t ≡ walked s name x at v → next ≡ path_on s at → Going s name f a b at₀ v₀ (i + 1) next t
+    -- one path more
+    next : i < b → walks (row f i b) (Ok r) ≡ walks (row f (i + 1) b) (stepped (f i) r)
     unfolding walks up_from
-    going_on w x t next h is took moved =
+    next l =
         let e : b - i ≡ suc (b - (i + 1)) = omega arith in
-        let u : used t ≤ used v + 258 = rw took (used-walked s name w x at v) in
+        ap (λ k. walks (map f (up_from i k)) (Ok r)) e ∙ ap (λ j. walks (map f (up_from j (b - (i + 1)))) (stepped (f i) r)) (sym (add-one i))
+
+    pub going_on : (x : Asked) (q : Reader) → i < b → x ≡ f i → stepped x r ≡ Ok q → q.digests ≤ r.digests + 258 → Going f a b r₀ (i + 1) q
+    going_on x q l is took few =
+        let p = step-passed x r q took in
         record {
-          room = omega (arith, g.room);
-          same = g.same
-              ∙ ap (λ k. walks s name (map f (up_from i k)) at v) e
-              ∙ ap (λ j. walks s name (map f (up_from j (b - (i + 1)))) (path_on s at) (walked s name (f i) at v)) (sym (add-one i))
-              ∙ ap (λ n. walks s name (row f (i + 1) b) n (walked s name (f i) at v)) (sym moved)
-              ∙ ap (walks s name (row f (i + 1) b) next) (ap (λ x. walked s name x at v) (sym is) ∙ sym took);
+          same = g.same ∙ next l ∙ ap (walks (row f (i + 1) b)) (ap (λ x. stepped x r) (sym is) ∙ took);
+          proof = p.proof ∙ g.proof;
+          name = p.name ∙ g.name;
+          count = omega (arith, g.count);
         }
 
-    pub going-ends : b ≤ i → v ≡ walks s name (row f a b) at₀ v₀
+    pub going-fails : (x : Asked) (e : Refusal) → i < b → x ≡ f i → stepped x r ≡ Err e → walks (row f a b) (Ok r₀) ≡ Err e
+    going-fails x e l is took = g.same ∙ next l ∙ ap (walks (row f (i + 1) b)) (ap (λ x. stepped x r) (sym is) ∙ took) ∙ walks-refused (row f (i + 1) b) e
+
+    pub going-ends : b ≤ i → Ok r ≡ walks (row f a b) (Ok r₀)
     unfolding walks up_from
-    going-ends h = let e : b - i ≡ 0 = omega arith in sym (g.same ∙ ap (λ k. walks s name (map f (up_from i k)) at v) e)
+    going-ends h = let e : b - i ≡ 0 = omega arith in sym (g.same ∙ ap (λ k. walks (map f (up_from i k)) (Ok r)) e)
+
+-- the same, whatever is asked of the numbers: proof and name stay, and the count has room
+pub record Steady (a b : ℕ) (r₀ : Reader) (i : ℕ) (r : Reader) : Type 0 where
+  pub proof : r.proof ≡ r₀.proof
+  pub name : r.name ≡ r₀.name
+  pub count : r.digests + 258 * (b - i) ≤ r₀.digests + 258 * (b - a)
+
+module _ (a b : ℕ) where
+  pub steady-starts : (r : Reader) → Steady a b r a r
+  steady-starts r = record { proof = refl; name = refl; count = omega arith }
+
+  module _ (r₀ : Reader) (i : ℕ) (r : Reader) (g : Steady a b r₀ i r) where
+    pub steady-ready : Ahead (b - a) r₀ → i < b → Ahead 1 r
+    steady-ready h l = record { front = rw g.proof h.front; short = rw g.name h.short; room = omega (arith, g.count, h.room) }
+
+    pub steady_on : (x : Asked) (q : Reader) → i < b → stepped x r ≡ Ok q → q.digests ≤ r.digests + 258 → Steady a b r₀ (i + 1) q
+    steady_on x q l took few = let p = step-passed x r q took in record { proof = p.proof ∙ g.proof; name = p.name ∙ g.name; count = omega (arith, g.count) }
 
 -- no path, and one
-module _ (s name : Bytes) (l : List Asked) (at : ℕ) (w : Walk) where
-  pub walks-none : l ≡ [] → w ≡ walks s name l at w
-  unfolding walks
-  walks-none e = rw e refl
+pub walks-none : (r : Reader) → Ok r ≡ walks [] (Ok r)
+unfolding walks
+walks-none r = refl
 
-  pub walks-one : (x : Asked) (t : Walk) → (x ∷ []) ≡ l → t ≡ walked s name x at w → t ≡ walks s name l at w
-  unfolding walks
-  walks-one x t e q = q ∙ ap (λ l. walks s name l at w) e
-
--- "If n > 0, n absent from *old*."
-module _ (s name : Bytes) (at : ℕ) where
-  pub no-current : (n : ℕ) (w : Walk) → n ≡ 0 → w ≡ walks s name (ask_current n) at w
-  unfolding walks
-  no-current zero w e = refl
-  no-current (suc n) w e = absurd (omega arith)
-
-  pub some-current : (n : ℕ) (w : Walk) → (n ≡ 0 → ⊥) → (x : Asked) (t : Walk) → x ≡ lack (InOld n) → t ≡ walked s name x at w → t ≡ walks s name (ask_current n) at w
-  unfolding walks
-  some-current zero w h x t e q = absurd (h refl)
-  some-current (suc n) w h x t e q = q ∙ ap (λ x. walked s name x at w) e
+pub walks-one : (a : Asked) (r : Reader) → stepped a r ≡ walks (a ∷ []) (Ok r)
+unfolding walks
+walks-one a r = refl

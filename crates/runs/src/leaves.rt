@@ -1,6 +1,5 @@
 // Places of paths behind others, and the epochs of versions, read again from their paths where they are asked of other leaves.
 ghost use Rattle.std.specs.Prelude.{◌≡◌, ◌+◌};
-ghost use Rattle.walks.specs.Walk.{path_on};
 ghost use Rattle.runs.specs.Runs.{end_epoch, leaf_at, place_at, epoch_from};
 
 use crate::Leaf;
@@ -11,31 +10,22 @@ fn end_epoch(end: End) -> u32
     ensures { result ≡ end_epoch «end» }
 {
     match end {
-        End::This { at: _, epoch } => epoch,
-        End::Other { at: _, epoch: _ } => 0,
-        End::Off { at: _ } => 0,
-        End::Nothing => 0,
+        End::This { epoch, .. } => epoch,
+        _ => 0,
     }
 }
 
-// The leaf of the path at `at`.
+// The leaf of the path at `at`. Where no path stands, as nowhere among the paths of a proof in layout, both are 0.
 pub fn leaf_at(s: &[u8], at: usize) -> Leaf
     ensures { result ≡ leaf_at s.now at }
 {
-    let path = parse(s, at);
-    let end = path.end;
-    Leaf {
-        epoch: end_epoch(end),
-        next: path.next,
+    match parse(s, at) {
+        Some(path) => Leaf {
+            epoch: end_epoch(path.end),
+            next: path.next,
+        },
+        None => Leaf { epoch: 0, next: 0 },
     }
-}
-
-// The place behind the path at `at`.
-pub(crate) fn path_after(s: &[u8], at: usize) -> usize
-    ensures { result ≡ path_on s.now at }
-{
-    let path = parse(s, at);
-    path.next
 }
 
 // The place behind k paths from `at` on.
@@ -44,7 +34,7 @@ pub fn past(s: &[u8], at: usize, k: usize) -> usize
 {
     let mut here = at;
     for _ in 0..k {
-        here = path_after(s, here);
+        here = leaf_at(s, here).next;
     }
     here
 }
@@ -53,6 +43,5 @@ pub fn past(s: &[u8], at: usize, k: usize) -> usize
 pub(crate) fn epoch_behind(s: &[u8], first: usize, k: usize) -> u32
     ensures { result ≡ epoch_from s.now first (k + 1) }
 {
-    let last = leaf_at(s, past(s, first, k));
-    last.epoch
+    leaf_at(s, past(s, first, k)).epoch
 }

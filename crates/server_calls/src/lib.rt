@@ -2,45 +2,39 @@
 // call is one function, which reads its fields and answers a whole request, and one arm of `answer`.
 #![tactic(auto)]
 
-ghost use Rattle.wire.specs.Rooms.{Spacious, Roomy};
-
-use paper::{PublishAnswer, StartAnswer, State};
-use reply::{print_bad, print_bytes, print_number, print_refused, print_text};
+use paper::State;
+use reply::{print_bytes, print_refused, print_text};
 use std::io::{Read, Write};
-use wire::{Request, read_at};
+use wire::{Request, ServerCall, Space, Spare, Unreadable};
 
 // The state and a blank after it.
 fn print_state<O: Write>(output: &mut O, state: State) {
-    print_number(output, state.count as u64);
-    print_text(output, b" ");
-    print_number(output, state.epoch as u64);
-    print_text(output, b" ");
+    let _ = write!(output, "{} {} ", state.count, state.epoch);
 }
 
 // 10: the state, and the heads as they are left.
 fn answer_start<O: Write>(output: &mut O, heads: &mut [u8]) {
     match start::start(heads) {
-        StartAnswer::Started(state) => {
+        Ok(state) => {
             print_state(output, state);
             print_bytes(output, heads);
             print_text(output, b"\n");
         }
-        StartAnswer::Refused(n) => print_refused(output, n),
+        Err(refusal) => print_refused(output, refusal.number()),
     }
 }
 
 // The bound of heads is 65,536, and there is room for one more.
-fn call_start<I: Read, O: Write>(input: &mut I, output: &mut O, r: Request, space: &mut [u8])
-    requires { Spacious space.old }
-{
-    let f = read_at(input, r, space, 0, 2097184);
-    let n = f.length;
-    let rest = f.rest;
-    if wire::whole(rest) {
-        answer_start(output, &mut space[0..n]);
-    } else {
-        print_bad(input, output, rest);
-    }
+fn call_start<I: Read, O: Write>(
+    input: &mut I,
+    output: &mut O,
+    request: &mut Request,
+    space: &mut Space,
+) -> Result<(), Unreadable> {
+    let n = request.read_at(input, space, 0, 2_097_184)?;
+    request.end()?;
+    answer_start(output, &mut space[..n]);
+    Ok(())
 }
 
 // Room for 256 updates, which is their bound, and one more.
@@ -57,14 +51,14 @@ fn answer_publish<O: Write>(
     batch: &[u8],
 ) {
     match publish::publish(records, heads, state, batch) {
-        PublishAnswer::Published(new) => {
+        Ok(new) => {
             print_state(output, new);
             print_bytes(output, records);
             print_text(output, b" ");
             print_bytes(output, heads);
             print_text(output, b"\n");
         }
-        PublishAnswer::Refused { number, state: _ } => print_refused(output, number),
+        Err(returned) => print_refused(output, returned.refusal.number()),
     }
 }
 
@@ -73,53 +67,37 @@ fn answer_publish<O: Write>(
 fn call_publish<I: Read, O: Write>(
     input: &mut I,
     output: &mut O,
-    r: Request,
-    space: &mut [u8],
-    spare: &mut [u8],
-)
-    requires { Spacious space.old × Roomy spare.old }
-{
+    request: &mut Request,
+    space: &mut Space,
+    spare: &mut Spare,
+) -> Result<(), Unreadable> {
     let mut batch = blank_batch();
-    let f = read_at(input, r, spare, 0, 688296);
-    let g = read_at(input, f.rest, space, 0, 2097184);
-    let count = wire::read_number32(input, g.rest);
-    let epoch = wire::read_number32(input, count.rest);
-    let h = wire::read_field(input, epoch.rest, &mut batch);
-    let k = f.length;
-    let m = g.length;
-    let n = h.length;
-    let rest = h.rest;
-    if wire::whole(rest) {
-        let state = State {
-            count: count.value,
-            epoch: epoch.value,
-        };
-        answer_publish(
-            output,
-            &mut spare[0..k],
-            &mut space[0..m],
-            state,
-            &batch[..n],
-        );
-    } else {
-        print_bad(input, output, rest);
-    }
+    let k = request.read_at(input, spare, 0, 688_296)?;
+    let m = request.read_at(input, space, 0, 2_097_184)?;
+    let count = u32::from_be_bytes(request.read_array(input)?);
+    let epoch = u32::from_be_bytes(request.read_array(input)?);
+    let n = request.read_field(input, &mut batch)?;
+    request.end()?;
+    answer_publish(
+        output,
+        &mut spare[..k],
+        &mut space[..m],
+        State { count, epoch },
+        &batch[..n],
+    );
+    Ok(())
 }
 
-// Answers call 10 or 11.
 pub fn answer<I: Read, O: Write>(
     input: &mut I,
     output: &mut O,
-    call: u8,
-    r: Request,
-    space: &mut [u8],
-    spare: &mut [u8],
-)
-    requires { Spacious space.old × Roomy spare.old }
-    ensures { Spacious space.new × Roomy spare.new }
-{
+    call: ServerCall,
+    request: &mut Request,
+    space: &mut Space,
+    spare: &mut Spare,
+) -> Result<(), Unreadable> {
     match call {
-        10 => call_start(input, output, r, space),
-        _ => call_publish(input, output, r, space, spare),
+        ServerCall::Start => call_start(input, output, request, space),
+        ServerCall::Publish => call_publish(input, output, request, space, spare),
     }
 }

@@ -1,5 +1,3 @@
 -- The laws that the proofs of this crate share, on plain numbers and lists.
-pub mod Numbers
 pub mod Turns
 pub mod Padding
-pub mod Bytes

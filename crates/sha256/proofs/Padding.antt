@@ -2,26 +2,15 @@
 use mathlib.Core.Path.{◌≡◌, refl, sym, ap, ◌∙◌}
 use mathlib.Core.List.{List, ◌∷◌, ◌++◌, append_assoc}
 use Prim.Native.Nat.{ℕ, zero, suc, ◌+◌, ◌-◌, ◌*◌, ◌/◌, ◌%◌, ◌^◌, ◌≤◌, ◌<◌}
-use native.Mathlib.Nat.{add-suc}
-use native.Mathlib.Numerals.{add-one}
 use native.Mathlib.Omega.{arith}
-use lib.ListN.{length, get_or, take, drop, set, replicate, length-append, length-drop, length-replicate, replicate-append-replicate, drop_of_length-le}
+use lib.ListN.{length, take, drop, set, replicate, length-append, length-drop, length-replicate, replicate-append-replicate}
 use lib.Pow.{field, mod-pow-add}
-use lib.Seq.{sets, sets-eq, set-append_seam, take_all, take_at, drop_at, drop-cons, drop-drop, take-append-le, drop-append-le}
+use borrow.Rule.Slice.PartMut.{put_mid}
+use lib.Seq.{set-append_seam, take_all, take_at, drop_at, drop-drop, take-append-le, drop-append-le}
 use Rattle.fips.specs.declared.State.{State}
 use Rattle.fips.specs.Sha256.{compress, hash, H0, zeros, be64, pad, digest, sha256}
 use Rattle.sha256.specs.Ending.{ending}
 use Rattle.sha256.proofs.Turns.{hash-step, hash-none}
-
--- ---- a run of stores, one by one
-
-module _ (d x bytes : List ℕ) (at i : ℕ) (left : sets d (at + i) (drop i bytes) ≡ x) where
-  pub put-turn : i < length bytes
-      → sets (set d (at + i) (get_or bytes i 0)) (at + (i + 1)) (drop (i + 1) bytes) ≡ x
-  put-turn h = rw (add-one, add-suc) (rw (drop-cons bytes i 0 h) at left)
-
-  pub put-done : length bytes ≤ i → d ≡ x
-  put-done h = rw (drop_of_length-le bytes h) at left
 
 -- ---- the last blocks
 
@@ -33,8 +22,8 @@ unfolding be64
 length-be64 n = refl
 
 -- the bytes m, the mark and the length n, as b, stored in k zeros so that the length ends at e
-module _ (m : List ℕ) (n k e : ℕ) (d₁ d₂ b : List ℕ) (short : length m < 64) (size : k ≡ 128) (end : e ≡ (length m + 8) / 64 * 64 + 64)
-    (first : d₁ ≡ sets (blank k) 0 m) (bytes : b ≡ be64 n) (second : d₂ ≡ sets (set d₁ (length m) 0x80) (e - 8) b) where
+module _ (m : List ℕ) (n k e w : ℕ) (d₁ d₂ b : List ℕ) (short : length m < 64) (size : k ≡ 128) (end : e ≡ (length m + 8) / 64 * 64 + 64)
+    (first : d₁ ≡ m ++ drop (length m) (blank k)) (bytes : b ≡ be64 n) (second : d₂ ≡ put_mid (e - 8) w (set d₁ (length m) 0x80) b) where
   -- the bytes, the mark and the zeros, and what the length leaves behind it
   abbrev front : List ℕ
   front = m ++ (0x80 ∷ blank (zeros (length m)))
@@ -49,9 +38,8 @@ module _ (m : List ℕ) (n k e : ℕ) (d₁ d₂ b : List ℕ) (short : length m
       let c : k ≡ length m + suc (z + (136 - e)) = omega arith in
       let split : blank k ≡ blank (length m) ++ (0 ∷ (blank z ++ after)) =
       rw (c, ← replicate-append-replicate, ← replicate-append-replicate) in
-      let room : 0 + length m ≤ length (blank k) = simp length-replicate (omega arith) in
-      let l : length (blank (length m)) ≡ 0 + length m = simp length-replicate (omega arith) in
-      rw (first, sets-eq m (blank k) 0 room, split, drop_at (blank (length m)) (0 ∷ (blank z ++ after)) (0 + length m) l)
+      let l : length (blank (length m)) ≡ length m = length-replicate (length m) 0 in
+      rw (first, split, drop_at (blank (length m)) (0 ∷ (blank z ++ after)) (length m) l)
       (set-append_seam m 0 (blank z ++ after) 0x80 ∙ sym (append_assoc m (0x80 ∷ blank z) after))
 
   -- the code takes the first j bytes of it
@@ -60,11 +48,11 @@ module _ (m : List ℕ) (n k e : ℕ) (d₁ d₂ b : List ℕ) (short : length m
   made s r j i q =
       let lb : length (be64 n) ≡ 8 = length-be64 n in
       let lf : length front ≡ e - 8 = simp (length-append, length-replicate) (omega arith) in
-      let room : e - 8 + length (be64 n) ≤ length (front ++ after) = simp (length-append, length-replicate) (omega arith) in
       let le : length (front ++ be64 n) ≡ e = simp (length-append, length-replicate) (omega arith) in
-      rw (q, i, second, bytes, marked, sets-eq (be64 n) (front ++ after) (e - 8) room, take_at front after (e - 8) lf)
-      (ap (hash s)
-      (take_at (front ++ be64 n) (drop (e - 8 + length (be64 n)) (front ++ after)) e le
+      rw (q, i, second, bytes, marked, take_at front after (e - 8) lf)
+      (ap (λ d. hash s (take e d)) (sym (append_assoc front (be64 n) (drop w (drop (e - 8) (front ++ after)))))
+      ∙ ap (hash s)
+      (take_at (front ++ be64 n) (drop w (drop (e - 8) (front ++ after))) e le
       ∙ append_assoc m (0x80 ∷ blank (zeros (length m))) (be64 n)))
 
 -- ---- the length in bits

@@ -1,10 +1,12 @@
 -- A turn, and the end, of the loop over whole blocks, on plain lists. Assumes nothing.
-use mathlib.Core.Path.{◌≡◌, sym, ◌∙◌}
-use mathlib.Core.List.{List}
-use Prim.Native.Nat.{ℕ, suc, ◌+◌, ◌-◌, ◌/◌, ◌≤◌, ◌<◌}
+use mathlib.Core.Path.{◌≡◌, refl, ap}
+use mathlib.Core.List.{List, ◌∷◌, foldl}
+use Prim.Native.Nat.{ℕ, zero, suc, ◌+◌, ◌-◌, ◌/◌, ◌≤◌, ◌<◌}
 use native.Mathlib.Omega.{arith}
-use lib.ListN.{length, take, drop, length-drop}
-use lib.Seq.{drop-drop}
+use native.Mathlib.Numerals.{add-one}
+use lib.ListN.{length, get_or, take, drop, length-drop, drop_of_length-le}
+use lib.Seq.{drop-cons}
+use Rattle.std.specs.Simd.{first_chunks}
 use Rattle.fips.specs.declared.State.{State}
 use Rattle.fips.specs.Sha256.{compress, parse, hash}
 
@@ -20,12 +22,16 @@ hash-none s q h =
     let n : length q / 64 ≡ 0 = omega arith in
     rw n
 
--- the code takes the next n bytes, 64 of them
-pub blocks-turn : (m : List ℕ) (at n : ℕ) (r q x : State) → n ≡ 64 → at + 64 ≤ length m
-    → q ≡ compress r (take n (drop at m)) → hash r (drop at m) ≡ x → hash q (drop (at + 64) m) ≡ x
-blocks-turn m at n r q x e h p y =
-    let l : 64 ≤ length (drop at m) = simp length-drop (omega arith) in
-    rw (p, e, ← drop-drop) (sym (hash-step r (drop at m) l) ∙ y)
+-- a block taken, and none left
+pub fold-turn : (xs : List (List ℕ)) (i : ℕ) (d : List ℕ) (r q x : State) → i < length xs → q ≡ compress r (get_or xs i d)
+    → foldl compress r (drop i xs) ≡ x → foldl compress q (drop (i + 1) xs) ≡ x
+fold-turn xs i d r q x h e y = rw (e, add-one i) (rw (drop-cons xs i d h) at y)
 
-pub blocks-done : (m : List ℕ) (at : ℕ) (r x : State) → length m - at < 64 → hash r (drop at m) ≡ x → r ≡ x
-blocks-done m at r x h e = sym (hash-none r (drop at m) (simp length-drop (omega arith))) ∙ e
+pub fold-done : (xs : List (List ℕ)) (i : ℕ) (r x : State) → length xs ≤ i → foldl compress r (drop i xs) ≡ x → r ≡ x
+fold-done xs i r x h y = rw (drop_of_length-le xs h) at y
+
+-- the blocks as the library cuts them
+pub chunks-parse : (k : ℕ) (m : List ℕ) → first_chunks 64 k m ≡ parse k m
+unfolding parse
+chunks-parse zero m = refl
+chunks-parse (suc k) m = ap (λ b. take 64 m ∷ b) (chunks-parse k (drop 64 m))

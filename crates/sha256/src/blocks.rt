@@ -12,11 +12,8 @@ pub(crate) fn blocks(s: State, k: &[u32; 64], m: &[u8]) -> State
     ensures { result ≡ S.hash s m.now }
 {
     let mut r = s;
-    let mut at = 0;
-    while 64 <= m.len() - at {
-        let next = at + 64;
-        r = compress(r, k, &m[at..next]);
-        at = next;
+    for block in m.as_chunks::<64>().0 {
+        r = compress(r, k, block);
     }
     r
 }

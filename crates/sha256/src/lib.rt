@@ -26,32 +26,6 @@ const START: State = State {
     h: 0x5be0_cd19,
 };
 
-// The bytes of a word of 64 bits, the first the most significant.
-fn be64(n: u64) -> [u8; 8]
-    ensures { result ≡ S.be64 n }
-{
-    [
-        ((n >> 56) % 256) as u8,
-        ((n >> 48) % 256) as u8,
-        ((n >> 40) % 256) as u8,
-        ((n >> 32) % 256) as u8,
-        ((n >> 24) % 256) as u8,
-        ((n >> 16) % 256) as u8,
-        ((n >> 8) % 256) as u8,
-        (n % 256) as u8,
-    ]
-}
-
-// Stores `bytes` from `at` on.
-fn put(d: &mut [u8; 128], at: usize, bytes: &[u8])
-    requires { at + length bytes.now ≤ 128 }
-    ensures { d.new ≡ sets d.old at bytes.now }
-{
-    for i in 0..bytes.len() {
-        d[at + i] = bytes[i];
-    }
-}
-
 // Section 5.1.1: the hash value at the end of a message of `bits` bits, where `m` is what comes after
 // its last whole block. The mark and the length take 9 bytes, so a second block is needed from 56 on.
 fn finish(s: State, k: &[u32; 64], m: &[u8], bits: u64) -> State
@@ -60,29 +34,28 @@ fn finish(s: State, k: &[u32; 64], m: &[u8], bits: u64) -> State
 {
     let end = (m.len() + 8) / 64 * 64 + 64;
     let mut d = [0u8; 128];
-    put(&mut d, 0, m);
+    d[..m.len()].copy_from_slice(m);
     d[m.len()] = 0x80;
-    put(&mut d, end - 8, &be64(bits));
-    blocks(s, k, &d[0..end])
-}
-
-// Byte `i` of a word, the first the most significant.
-fn byte(x: u32, i: usize) -> u8
-    requires { i < 4 }
-    ensures { result ≡ x / 2 ^ (24 - 8 * i) % 256 }
-{
-    ((x >> (24 - 8 * i)) % 256) as u8
+    d[end - 8..end].copy_from_slice(&bits.to_be_bytes());
+    blocks(s, k, &d[..end])
 }
 
 // The bytes of the hash value.
 fn digest(s: State) -> [u8; 32]
     ensures { result ≡ S.digest s }
 {
-    let w = [s.a, s.b, s.c, s.d, s.e, s.f, s.g, s.h];
+    let words = [
+        s.a.to_be_bytes(),
+        s.b.to_be_bytes(),
+        s.c.to_be_bytes(),
+        s.d.to_be_bytes(),
+        s.e.to_be_bytes(),
+        s.f.to_be_bytes(),
+        s.g.to_be_bytes(),
+        s.h.to_be_bytes(),
+    ];
     let mut d = [0u8; 32];
-    for i in 0..32 {
-        d[i] = byte(w[i / 4], i % 4);
-    }
+    d.copy_from_slice(words.as_flattened());
     d
 }
 

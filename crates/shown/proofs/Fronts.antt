@@ -15,8 +15,9 @@ use Rattle.paper.specs.Layout.{Read, got, bad}
 use Rattle.paper.specs.Fields.{head_field, opens}
 use Rattle.paper.proofs.Lists.{and_right}
 use Rattle.fields.proofs.Flat.{Flat, flat-as, flat-yes, flat-short, flat-no, flat-got, fixed-flat, within-flat, head-flat, seq-flat, view-flat}
+use Rattle.std.specs.Prelude.{Some, None}
+use Rattle.shown.specs.declared.Front.{Front}
 use Rattle.shown.specs.Form.{front_field, front_of, front_at, head_in}
-use Rattle.shown.specs.declared.Front.TheVariants as F
 
 -- "VKD", 16-bit version 1, and the kind
 abbrev pub header : ℕ → Bytes
@@ -32,19 +33,19 @@ front-flat kind = flat-as refl (λ s. rw (drop-drop 100 6 s, leb-zero (number_in
 
 module _ (kind : ℕ) (s : Bytes) (w : Bytewise s) where
   -- as it is tested
-  pub front-short : length s < 108 → front_at kind s ≡ F.Bad
+  pub front-short : length s < 108 → front_at kind s ≡ None
   unfolding front_at
   front-short h = rw (flat-short (front-flat kind) s w h)
 
-  pub front-other : same (take 6 s) (header kind) ≡ false → front_at kind s ≡ F.Bad
+  pub front-other : same (take 6 s) (header kind) ≡ false → front_at kind s ≡ None
   unfolding front_at
   front-other e = rw (flat-no (front-flat kind) s w (rw e))
 
-  pub front-large : version_most < number_in s → front_at kind s ≡ F.Bad
+  pub front-large : version_most < number_in s → front_at kind s ≡ None
   unfolding front_at
   front-large h = rw (flat-no (front-flat kind) s w (rw (lt-leb (number_in s) version_most h, and-false)))
 
-  pub front-good : 108 ≤ length s → same (take 6 s) (header kind) ≡ true → number_in s ≤ version_most → front_at kind s ≡ F.Read (number_in s) (head_in s).epoch
+  pub front-good : 108 ≤ length s → same (take 6 s) (header kind) ≡ true → number_in s ≤ version_most → front_at kind s ≡ Some (record { number = number_in s; epoch = (head_in s).epoch })
   unfolding front_at
   front-good l e h = rw (flat-yes (front-flat kind) s w l (rw (e, le-leb (number_in s) version_most h)))
 
@@ -56,16 +57,17 @@ module _ (kind : ℕ) (s : Bytes) (w : Bytewise s) where
     pub epoch : t ≡ (head_in s).epoch
     pub reads : (front_field kind).read s ≡ got (head_in s, n) (drop 108 s)
 
-  pub front-told : (n t : ℕ) → front_at kind s ≡ F.Read n t → FrontTold n t
+  pub front-told : (n t : ℕ) → front_at kind s ≡ Some (record { number = n; epoch = t }) → FrontTold n t
   unfolding front_at
   front-told n t e = by ((front_field kind).read s) refl e
     where
-      by : (m : Read (Head × ℕ)) → (front_field kind).read s ≡ m → front_of m ≡ F.Read n t → FrontTold n t
+      by : (m : Read (Head × ℕ)) → (front_field kind).read s ≡ m → front_of m ≡ Some (record { number = n; epoch = t }) → FrontTold n t
       by bad q e = let z : ◌≡◌ {A = ℕ} 0 1 = cc in absurd (omega arith)
       by (got x r) q e =
           let (l, o, v, d) = flat-got (front-flat kind) s w x r q in
-          let i : n ≡ number_in s = (let u : x.1 ≡ n = cc in sym u ∙ sym (ap (λ y. y.1) v)) in
-          let j : t ≡ (head_in s).epoch = (let u : x.0.epoch ≡ t = cc in sym u ∙ sym (ap (λ y. y.0.epoch) v)) in
+          let f : ◌≡◌ {A = Front} (record { number = x.1; epoch = x.0.epoch }) (record { number = n; epoch = t }) = cc in
+          let i : n ≡ number_in s = sym (ap (λ (y : Front). y.number) f) ∙ sym (ap (λ y. y.1) v) in
+          let j : t ≡ (head_in s).epoch = sym (ap (λ (y : Front). y.epoch) f) ∙ sym (ap (λ y. y.0.epoch) v) in
           record {
             room = l;
             small = omega (arith, leb-true (number_in s) version_most (and_right (same (take 6 s) (header kind)) _ o));
@@ -74,10 +76,10 @@ module _ (kind : ℕ) (s : Bytes) (w : Bytewise s) where
             reads = rw i (flat-yes (front-flat kind) s w l o);
           }
 
-  pub front-bad : front_at kind s ≡ F.Bad → (front_field kind).read s ≡ bad
+  pub front-bad : front_at kind s ≡ None → (front_field kind).read s ≡ bad
   unfolding front_at
   front-bad e = by ((front_field kind).read s) e
     where
-      by : (m : Read (Head × ℕ)) → front_of m ≡ F.Bad → m ≡ bad
+      by : (m : Read (Head × ℕ)) → front_of m ≡ None → m ≡ bad
       by bad e = refl
       by (got x r) e = let z : ◌≡◌ {A = ℕ} 0 1 = cc in absurd (omega arith)

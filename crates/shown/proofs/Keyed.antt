@@ -17,17 +17,17 @@ use Rattle.words.proofs.Number.{number-one}
 use Rattle.fields.proofs.Flat.{flat-yes, flat-short, flat-no, flat-got, block-flat, within-flat, inside, outside}
 use Rattle.fields.specs.After.{after_of, after_at}
 use Rattle.shown.specs.Form.{item_in, ItemStands}
-use Rattle.fields.specs.declared.After.TheVariants.{At, Nowhere}
+use Rattle.std.specs.Prelude.{Some, None}
 
 -- no length is there
-pub item-short : (s : Bytes) (at : ℕ) → length s ≤ at → after_at item_field s at ≡ Nowhere
+pub item-short : (s : Bytes) (at : ℕ) → length s ≤ at → after_at item_field s at ≡ None
 unfolding view seq led
 item-short s at h = rw (drop_of_length-le s h, flat-short (within-flat 1 1 key_most) [] tt (omega arith))
 
 module _ (s : Bytes) (at : ℕ) (w : Bytewise s) where
   module _ (h : at < length s) where
     -- it is out of its range
-    pub item-range : (get_or s at 0 < 1) ⊎ (64 < get_or s at 0) → after_at item_field s at ≡ Nowhere
+    pub item-range : (get_or s at 0 < 1) ⊎ (64 < get_or s at 0) → after_at item_field s at ≡ None
     unfolding view seq led
     item-range o = rw (flat-no (within-flat 1 1 key_most) (drop at s) (all_drop _ at s w) (rw (number-one s at h) (outside 1 64 (get_or s at 0) o)))
 
@@ -39,12 +39,12 @@ module _ (s : Bytes) (at : ℕ) (w : Bytewise s) where
           rw (flat-yes (within-flat 1 1 key_most) (drop at s) (all_drop _ at s w) (omega (arith, length-drop at s)) (rw n (inside 1 64 (get_or s at 0) low high)), n, drop-drop 1 at s)
 
       -- key and opening are not all there
-      pub item-cut : length s - at < 33 + get_or s at 0 → after_at item_field s at ≡ Nowhere
+      pub item-cut : length s - at < 33 + get_or s at 0 → after_at item_field s at ≡ None
       unfolding view seq
       item-cut k = rw from-length (by ((block (get_or s at 0)).read (drop (at + 1) s)) refl)
         where
           by : (m : Read Bytes) → (block (get_or s at 0)).read (drop (at + 1) s) ≡ m
-              → after_of {A = Item} (length s) (and_then {A = Bytes × Bytes} (and_then m (λ x r. and_then (digest_field.read r) (λ y q. got (x, y) q))) (λ x r. got (record { key = x.0; opening = x.1 }) r)) ≡ Nowhere
+              → after_of {A = Item} (length s) (and_then {A = Bytes × Bytes} (and_then m (λ x r. and_then (digest_field.read r) (λ y q. got (x, y) q))) (λ x r. got (record { key = x.0; opening = x.1 }) r)) ≡ None
           by bad e = refl
           by (got x r) e =
               let (l, _, _, b) = flat-got (block-flat (get_or s at 0)) (drop (at + 1) s) (all_drop _ (at + 1) s w) x r e in
@@ -66,7 +66,7 @@ module _ (s : Bytes) (at : ℕ) (w : Bytewise s) where
             e,
           )
 
-      pub item-after : at + 33 + get_or s at 0 ≤ length s → after_at item_field s at ≡ At (at + 33 + get_or s at 0)
+      pub item-after : at + 33 + get_or s at 0 ≤ length s → after_at item_field s at ≡ Some (at + 33 + get_or s at 0)
       item-after k =
           let e : length s - length (drop (at + 33 + get_or s at 0) s) ≡ at + 33 + get_or s at 0 = omega (arith, length-drop (at + 33 + get_or s at 0) s) in
           rw (item-good k, e)
@@ -85,8 +85,8 @@ module _ (s : Bytes) (at : ℕ) (w : Bytewise s) where
       (λ low. no (item-range h (inl (omega arith)))))
       (λ h. no (item-short s at (omega arith)))
     where
-      no : {A : Type 0} → after_at item_field s at ≡ Nowhere → A
-      no q = let z : ◌≡◌ {A = ℕ} 0 1 = (let u : after_of (length s) (got i r) ≡ Nowhere = ap (after_of (length s)) (sym e) ∙ q in cc) in absurd (omega arith)
+      no : {A : Type 0} → after_at item_field s at ≡ None → A
+      no q = let z : ◌≡◌ {A = ℕ} 0 1 = (let u : after_of (length s) (got i r) ≡ None = ap (after_of (length s)) (sym e) ∙ q in cc) in absurd (omega arith)
 
       is : {q : Bytes} → item_field.read (drop at s) ≡ got (item_in s at) q → item_in s at ≡ i
       is o = cc

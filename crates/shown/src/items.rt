@@ -5,37 +5,33 @@ ghost use Rattle.paper.specs.Shows.{item_field};
 ghost use Rattle.fields.specs.After.{after_at};
 ghost use Rattle.shown.specs.Form.{ItemStands, commitment_in};
 
-use fields::After;
 use ranges::digest_at;
 
 // The place behind the item at `at`: "key | 1 to 64 bytes", "opening | 32 bytes".
-pub fn item_after(s: &[u8], at: usize) -> After
+pub fn item_after(s: &[u8], at: usize) -> Option<usize>
     requires { at ≤ length s.now }
     ensures { result ≡ after_at item_field s.now at }
 {
     if at == s.len() {
-        return After::Nowhere;
+        return None;
     }
     let n = s[at] as usize;
     if n < 1 || 64 < n || s.len() - at < 33 + n {
-        return After::Nowhere;
+        return None;
     }
-    After::At(at + 33 + n)
+    Some(at + 33 + n)
 }
 
-// The place behind k items.
-pub(crate) fn items_after(s: &[u8], at: usize, k: usize) -> After
+// The place behind k items. One function for items and paths would take a closure and the law of what it reads: no plainer than two loops.
+pub(crate) fn items_after(s: &[u8], at: usize, k: usize) -> Option<usize>
     requires { at ≤ length s.now }
     ensures { result ≡ after_at (times k item_field) s.now at }
 {
     let mut place = at;
     for _ in 0..k {
-        let After::At(next) = item_after(s, place) else {
-            return After::Nowhere;
-        };
-        place = next;
+        place = item_after(s, place)?;
     }
-    After::At(place)
+    Some(place)
 }
 
 // The commitment to the key of the item at `at`.

@@ -14,31 +14,24 @@ pub use layout::{first_path, read_front};
 pub use opened::head_hashes;
 use plan::Place;
 
-// "Numbers that say no", those of a lookup or history check.
-pub const INPUT: u8 = 1;
-
-pub const FORM: u8 = 2;
-
-pub const HEAD: u8 = 3;
-
-pub const ROOT: u8 = 4;
-
-pub const RULE: u8 = 5;
-
-// What the 108 bytes of header, head and number say, where they are in layout: the number, and the head's epoch.
+// What the 108 bytes of header, head and number say: the number, and the head's epoch.
 #[derive(Clone, Copy)]
-pub enum Front {
-    Read { number: u16, epoch: u32 },
-    Bad,
+pub struct Front {
+    pub number: u16,
+    pub epoch: u32,
 }
 
-// What a path is asked to show of a place: that its label is not there; or that it is, with a commitment, at an epoch from
-// `low` to `high`.
+// On which terms a leaf is accepted: with a commitment, at an epoch from `low` to `high`.
 #[derive(Clone, Copy)]
-pub struct Asked {
-    pub place: Place,
-    pub there: bool,
+pub struct Terms {
     pub commitment: [u8; 32],
     pub low: u64,
     pub high: u64,
+}
+
+// What a path is asked to show of a place: that its label is there, on terms; or that it is not.
+#[derive(Clone, Copy)]
+pub struct Asked {
+    pub place: Place,
+    pub terms: Option<Terms>,
 }

@@ -9,7 +9,7 @@ ghost use Rattle.paper.specs.Publish as P;
 use bounds::heads_within;
 use heads::head;
 use nodes::{inner, nothing};
-use paper::{StartAnswer, State};
+use paper::{Refusal, StartAnswer, State};
 use ranges::put;
 
 // "Epoch 0 has .. two empty trees": the root over no leaves.
@@ -24,9 +24,9 @@ pub fn start(heads: &mut [u8]) -> StartAnswer
     ensures { record { answer = result; heads = heads.new } ≡ P.start plain heads.old }
 {
     if !heads_within(heads) {
-        return StartAnswer::Refused(1);
+        return Err(Refusal::Input);
     }
     let root = empty_root();
     put(heads, 0, &head(0, &[0u8; 32], &root, &root));
-    StartAnswer::Started(State { count: 0, epoch: 0 })
+    Ok(State { count: 0, epoch: 0 })
 }

@@ -15,6 +15,7 @@ pub fn read_full<I: Read>(input: &mut I, buffer: &mut [u8]) -> usize
     ensures bytes { Consumes (I.remaining input.old) (I.remaining input.new) (take result buffer.new) }
 {
     let mut done = 0;
+    // Not a range: a turn goes on by as many bytes as the read gave.
     while done < buffer.len() {
         match input.read(&mut buffer[done..]) {
             Ok(0) | Err(_) => return done,

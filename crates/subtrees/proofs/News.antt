@@ -3,12 +3,11 @@
 use mathlib.Core.Path.{◌≡◌, refl, sym, ap, ap₂, ◌∙◌}
 use mathlib.Core.Bool.{Bool, true, false, cond, true≢false, false≢true, ◌||◌, or-false, or_assoc, or_comm}
 use mathlib.Core.List.{List, [], ◌∷◌, ◌++◌}
-use Prim.Native.Nat.{ℕ, zero, suc, ◌+◌, ◌-◌, ◌*◌, ◌≤◌, ◌<◌}
+use Prim.Native.Nat.{ℕ, zero, suc, ◌+◌, ◌≤◌, ◌<◌}
 use native.Mathlib.Omega.{arith}
-use native.Mathlib.Numerals.{add-one}
 use lib.Dec.{eqb}
-use lib.ListN.{length, take, drop, length-append, drop_of_length-le}
-use lib.Seq.{drop-cons, drop-drop}
+use lib.ListN.{length, take, drop, length-append, length-drop}
+use lib.Seq.{length-take-le}
 use Rattle.paper.specs.Lists.{All, keep, some}
 use Rattle.paper.specs.Bytes.{Bytes, number}
 use Rattle.paper.specs.Bits.{Bits, Pfx, starts, ◌▹◌}
@@ -16,18 +15,19 @@ use Rattle.paper.specs.Strings.{Node, leaf, inner, nothing}
 use Rattle.paper.specs.Tree.{key, digest, Tree, empty, one, fork, top, common, side, build, root}
 use Rattle.paper.specs.Audit.{opened}
 use Rattle.paper.specs.Write.{has_new, subtrees, below_root}
-use Rattle.paper.specs.Level.{entry_leaf, leaves_in}
+use Rattle.paper.specs.Level.{entry_leaf}
 use Rattle.paper.proofs.Lists.{in-all}
 use Rattle.paper.proofs.Bits.{pfx-length, pfx-one-way, pfx-starts, length-snoc}
 use Rattle.paper.proofs.Tree.{Free, common-most, common-next, side-all, side-below, side-free}
 use Rattle.paper.proofs.Walk.{no-starts}
 use Rattle.bit_order.proofs.Sides.{ordered-free}
-use Rattle.tree.specs.Stored.{flat, Sorted, Range}
-use Rattle.bit_order.proofs.Leaves.{leaves-length, leaves-long, leaf-at}
+use Rattle.std.specs.List.{list_any}
+use Rattle.leaf_row.specs.Row.{as_nodes, LeafFits, Sized}
+use Rattle.leaf_row.proofs.Rows.{sized-long}
+use Rattle.tree.specs.Stored.{children, flat, Sorted, Range, Part}
 use Rattle.tree.proofs.Leaves.{long-short, bare, single}
 use Rattle.bit_order.proofs.Order.{rising-ordered}
-use Rattle.tree.proofs.Halves.{before, behind, RootHalves, before-sorted, behind-sorted}
-use Rattle.tree.proofs.Slots.{slot-wide}
+use Rattle.tree.proofs.Halves.{RootHalves, before-sorted, behind-sorted}
 use Rattle.tree.proofs.Flat.{flat-size}
 
 module _ (t : ℕ) where
@@ -67,48 +67,38 @@ module _ (t : ℕ) where
       build-new n (p ▹ d) (side (p ▹ d) T) (side-free _ T f) (side-all _ _ T b) (side-below _ T) (omega (arith, length-snoc p d, pfx-length (common-most q x (y ∷ S) h))) in
       ap₂ (λ c d. c || d) (half false) (half true) ∙ sides-new p T (in-all _ T (common-next x y S f))
 
-  pub tree-new : (n from : ℕ) (s : Bytes) → Sorted n s → Range from (leaves_in n s) → 1 ≤ from → has_new t (build 256 (leaves_in n s)) ≡ some new (leaves_in n s)
-  tree-new n from s w r l =
-      let S = leaves_in n s in
-      let short = long-short S (leaves-long n s (omega (arith, w.size))) in
-      build-new 256 r.shared S (ordered-free S (rising-ordered S w.rises)) short r.shares (omega (arith, r.size))
+  pub tree-new : (from : ℕ) (S : List Node) → Part from S → has_new t (build 256 S) ≡ some new S
+  tree-new from S p =
+      let short = long-short S (sized-long S p.sorted.sized) in
+      build-new 256 p.range.shared S (ordered-free S (rising-ordered S p.sorted.rises)) short p.range.shares (omega (arith, p.range.size, p.deep))
 
-  -- the leaves from place i on: there is none, the first is new, the first is not
-  leaf-new : (n : ℕ) (s : Bytes) (i : ℕ) → i < n → drop i (leaves_in n s) ≡ entry_leaf (drop (i * 68) s) ∷ drop (i + 1) (leaves_in n s)
-  leaf-new n s i h =
-      drop-cons (leaves_in n s) i nothing (omega (arith, leaves-length n s))
-      ∙ ap₂ {C = List Node} (λ x k. x ∷ drop k (leaves_in n s)) (leaf-at n s i h) (sym (add-one i))
-
-  epoch-at : (s : Bytes) (i : ℕ) → new (entry_leaf (drop (i * 68) s)) ≡ eqb (number (take 4 (drop (i * 68 + 64) s))) t
+  -- of a leaf its epoch tells
+  pub leaf-new : (s : Bytes) → has_new t (one (entry_leaf s)) ≡ eqb (number (take 4 (drop 64 s))) t
   unfolding has_new
-  epoch-at s i = ap (λ x. eqb (number (take 4 x)) t) (drop-drop 64 (i * 68) s)
+  leaf-new s = refl
 
-  -- "Kind 0 is an unchanged leaf, .. 2 a new leaf"
-  pub leaf-kind : (s : Bytes) (b : Bool) → eqb (number (take 4 (drop 64 s))) t ≡ b → ◌≡◌ {A = ℕ} (cond b 2 0) (cond (new (entry_leaf s)) 2 0)
-  unfolding has_new
-  leaf-kind s b e = ap {B = ℕ} (λ b. cond b 2 0) (sym e)
-
-  pub none-new : (n : ℕ) (s : Bytes) (i : ℕ) → n ≤ i → some new (drop i (leaves_in n s)) ≡ false
+  -- and of a row each leaf's
+  pub row-new : (row : List Bytes) → list_any (λ e. new (entry_leaf e)) row ≡ some new (as_nodes row)
   unfolding some
-  none-new n s i h = let w : length (leaves_in n s) ≤ i = omega (arith, leaves-length n s) in ap (some new) (drop_of_length-le (leaves_in n s) w)
-
-  pub this-new : (n : ℕ) (s : Bytes) (i : ℕ) → i < n → eqb (number (take 4 (drop (i * 68 + 64) s))) t ≡ true → some new (drop i (leaves_in n s)) ≡ true
-  unfolding some
-  this-new n s i h e = ap (some new) (leaf-new n s i h) ∙ ap (λ b. b || some new (drop (i + 1) (leaves_in n s))) (epoch-at s i ∙ e)
-
-  pub rest-new : (n : ℕ) (s : Bytes) (i : ℕ) → i < n → eqb (number (take 4 (drop (i * 68 + 64) s))) t ≡ false → some new (drop i (leaves_in n s)) ≡ some new (drop (i + 1) (leaves_in n s))
-  unfolding some
-  rest-new n s i h e = ap (some new) (leaf-new n s i h) ∙ ap (λ b. b || some new (drop (i + 1) (leaves_in n s))) (epoch-at s i ∙ e)
+  row-new [] = refl
+  row-new (e ∷ row) = ap (λ b. new (entry_leaf e) || b) (row-new row)
 
   -- ---- the list
 
-  pub no-trees : (n : ℕ) (s : Bytes) → n ≡ 0 → subtrees t (build 256 (leaves_in n s)) ≡ []
+  pub no-trees : (S : List Node) → length S ≡ 0 → subtrees t (build 256 S) ≡ []
   unfolding subtrees
-  no-trees n s e = ap (subtrees t) (bare n s e)
+  no-trees S e = ap (subtrees t) (bare S e)
 
-  pub one-length : (n : ℕ) (s : Bytes) → n ≡ 1 → length (subtrees t (build 256 (leaves_in n s))) ≡ 1
+  leaf-one : (x : Node) → LeafFits x → length (subtrees t (one x)) ≡ 1
   unfolding subtrees
-  one-length n s e = ap (λ T. length (subtrees t T)) (single n s e)
+  leaf-one (leaf m c e) h = refl
+  leaf-one (inner p l r) h = absurd h
+  leaf-one nothing h = absurd h
+
+  pub one-length : (S : List Node) → Sized S → length S ≡ 1 → length (subtrees t (build 256 S)) ≡ 1
+  one-length [] h e = absurd (omega arith)
+  one-length (x ∷ []) h e = ap (λ T. length (subtrees t T)) (single (x ∷ []) e) ∙ leaf-one x h.0
+  one-length (x ∷ y ∷ S) h e = absurd (omega arith)
 
   module _ (T : Tree) (p : Bits) (l r : Tree) (e : T ≡ fork p l r) where
     pub old-fork : has_new t T ≡ false → subtrees t T ≡ opened p (digest (top l)) (digest (top r)) ∷ []
@@ -126,7 +116,7 @@ module _ (t : ℕ) where
   -- ---- how many records there are
 
   -- a tree has one slot fewer than leaves
-  few : (T : Tree) → length (subtrees t T) * 64 ≤ length (flat T) + 64
+  few : (T : Tree) → length (subtrees t T) ≤ length (flat T) + 1
   unfolding subtrees flat
   few empty = omega arith
   few (one (leaf m c e)) = omega arith
@@ -134,30 +124,26 @@ module _ (t : ℕ) where
   few (one nothing) = omega arith
   few (fork p l r) = by (has_new t l || has_new t r) (few l) (few r)
     where
-      by : (b : Bool) → length (subtrees t l) * 64 ≤ length (flat l) + 64 → length (subtrees t r) * 64 ≤ length (flat r) + 64
-          → length (cond b (subtrees t l ++ subtrees t r) (opened p (digest (top l)) (digest (top r)) ∷ [])) * 64 ≤ length (flat l ++ ((digest (top l) ++ digest (top r)) ++ flat r)) + 64
-      by true x y = omega (
-        arith,
-        length-append (subtrees t l) (subtrees t r),
-        length-append (flat l) ((digest (top l) ++ digest (top r)) ++ flat r),
-        length-append (digest (top l) ++ digest (top r)) (flat r),
-        slot-wide l r,
-      )
+      by : (b : Bool) → length (subtrees t l) ≤ length (flat l) + 1 → length (subtrees t r) ≤ length (flat r) + 1
+          → length (cond b (subtrees t l ++ subtrees t r) (opened p (digest (top l)) (digest (top r)) ∷ [])) ≤ length (flat l ++ (children l r ∷ flat r)) + 1
+      by true x y = omega (arith, length-append (subtrees t l) (subtrees t r), length-append (flat l) (children l r ∷ flat r))
       by false x y = omega arith
 
-  pub trees-few : (n from : ℕ) (s : Bytes) → Sorted n s → Range from (leaves_in n s) → 1 ≤ from → length (subtrees t (build 256 (leaves_in n s))) ≤ n
-  trees-few zero from s w r l = omega (arith, ap length (no-trees 0 s refl))
-  trees-few (suc n) from s w r l = omega (arith, few (build 256 (leaves_in (suc n) s)), flat-size (suc n) from s w r l (omega arith))
+  pub trees-few : (from : ℕ) (S : List Node) → Sorted S → Range from S → 1 ≤ from → length (subtrees t (build 256 S)) ≤ length S
+  trees-few from [] w r l = omega (arith, ap length (no-trees [] refl))
+  trees-few from (x ∷ S) w r l = omega (arith, few (build 256 (x ∷ S)), flat-size from (x ∷ S) w r l (omega arith))
 
-  pub root-few : (n : ℕ) (s : Bytes) (m : ℕ) → Sorted n s → RootHalves n s m → length (below_root t (root (leaves_in n s))) ≤ n
-  root-few n s m w h =
-      let l = build 256 (leaves_in m (before m s)) in
-      let r = build 256 (leaves_in (n - m) (behind m s)) in
+  pub root-few : (S : List Node) (m : ℕ) → Sorted S → RootHalves S m → length (below_root t (root S)) ≤ length S
+  root-few S m w h =
+      let l = build 256 (take m S) in
+      let r = build 256 (drop m S) in
       omega (
         arith,
         h.most,
-        ap length (root-fork (root (leaves_in n s)) [] l r h.tree),
+        ap length (root-fork (root S) [] l r h.tree),
         length-append (subtrees t l) (subtrees t r),
-        trees-few m 1 (before m s) (before-sorted n s w m h.most) h.left (omega arith),
-        trees-few (n - m) 1 (behind m s) (behind-sorted n s w m h.most) h.right (omega arith),
+        trees-few 1 (take m S) (before-sorted S w m) h.left (omega arith),
+        trees-few 1 (drop m S) (behind-sorted S w m) h.right (omega arith),
+        length-take-le m S h.most,
+        length-drop m S,
       )

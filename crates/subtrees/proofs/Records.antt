@@ -1,29 +1,30 @@
 -- The bytes of an audit's records, how many they are, and that they are written one right behind the other. Assumes nothing.
 use mathlib.Core.Path.{◌≡◌, refl, sym, ap, ap₂, ◌∙◌}
 use mathlib.Core.Bool.{Bool, true, false, cond, ◌||◌}
-use mathlib.Core.List.{[], ◌∷◌, ◌++◌, append_assoc}
-use Prim.Native.Nat.{ℕ, zero, suc, ◌+◌, ◌*◌, ◌≤◌}
+use mathlib.Core.List.{List, [], ◌∷◌, ◌++◌, append_assoc}
+use Prim.Native.Nat.{ℕ, ◌+◌, ◌*◌, ◌≤◌}
 use native.Mathlib.Omega.{arith}
 use lib.Dec.{eqb}
-use lib.ListN.{length, take, drop, set, length-append, length-drop}
-use lib.Seq.{length-take-le}
+use lib.ListN.{length, take, drop, set, length-append}
+use lib.Seq.{take_all}
 use Rattle.paper.specs.Lists.{All}
 use Rattle.paper.specs.Numbers.{wide}
 use Rattle.paper.specs.Bytes.{Bytes, Bytewise, be, number, zeros, pasted}
 use Rattle.paper.specs.Bits.{Bits, bits_of, pack, ◌▹◌}
-use Rattle.paper.specs.Strings.{Node, leaf, inner, nothing}
+use Rattle.paper.specs.Strings.{Node, leaf, inner, nothing, node_string}
 use Rattle.paper.specs.Tree.{digest, Tree, empty, one, fork, top, side, build, root}
 use Rattle.paper.specs.Layout.{block, fixed, within, seq, led, times, times_bytes, such, view}
 use Rattle.paper.specs.Audit.{unchanged, opened, fresh, record_of, audit_record_field, list_field}
 use Rattle.paper.specs.Write.{has_new, subtrees, below_root}
-use Rattle.paper.specs.Level.{entry_leaf, leaves_in}
+use Rattle.paper.specs.Level.{entry_leaf}
+use Rattle.leaf_row.specs.Row.{LeafFits, Sized}
 use Rattle.paper.proofs.Lists.{all_in, in-all, all_left, all_right}
+use Rattle.paper.proofs.Fits.{digest-wide}
 use Rattle.paper.proofs.Bytes.{be-length, pack-length}
 use Rattle.paper.proofs.Tree.{side-in}
 use Rattle.paper.proofs.Way.{entries, build-entries}
 use Rattle.paper.proofs.Pasted.{pasted-none}
 use Rattle.ranges.proofs.Slices.{length_part}
-use Rattle.tree.proofs.Slots.{slot-wide}
 use Rattle.tree_path.specs.Measured.{node_bytes}
 use Rattle.path_fields.specs.Written.{Wrote}
 use Rattle.tree_path.proofs.Ends.{leaf-fields, node-long}
@@ -46,9 +47,9 @@ unfolding led within record_of view seq such block be
 opened-bytes p l r = refl
 
 module _ (t : ℕ) where
-  pub none-bytes : (n : ℕ) (s : Bytes) → n ≡ 0 → tree_bytes t (build 256 (leaves_in n s)) ≡ []
+  pub none-bytes : (S : List Node) → length S ≡ 0 → tree_bytes t (build 256 S) ≡ []
   unfolding tree_bytes times_bytes
-  none-bytes n s e = ap (times_bytes audit_record_field.bytes) (no-trees t n s e)
+  none-bytes S e = ap (times_bytes audit_record_field.bytes) (no-trees t S e)
 
   leaf-bytes : (m : Bits) (c : Bytes) (e : ℕ) → tree_bytes t (one (leaf m c e)) ≡ cond (has_new t (one (leaf m c e))) 2 0 ∷ (be 2 256 ++ (pack wide m ++ (c ++ (be 4 e ++ zeros 28))))
   unfolding tree_bytes subtrees has_new
@@ -101,13 +102,14 @@ list_wrote o v u w x y z at mid r count h l e f g q =
 pub wrote_none : (o x : Bytes) (at : ℕ) → x ≡ [] → Wrote o at x o at
 wrote_none o x at e = record { laid = sym (ap (pasted o at) e ∙ pasted-none o at); behind = omega (arith, ap length e) }
 
-pub leaf-wrote : (o a b c fill s : Bytes) (at kind t : ℕ) → at + 99 ≤ length o → 68 ≤ length s → Bytewise s → kind ≡ cond (has_new t (one (entry_leaf s))) 2 0 → fill ≡ zeros 28
-    → a ≡ pasted (set o at kind) (at + 1) (be 2 256) → b ≡ pasted a (at + 3) (take 68 s) → c ≡ pasted b (at + 71) fill → Wrote o at (tree_bytes t (one (entry_leaf s))) c (at + 99)
+pub leaf-wrote : (o a b c fill s : Bytes) (at kind t : ℕ) → at + 99 ≤ length o → length s ≡ 68 → Bytewise s → kind ≡ cond (has_new t (one (entry_leaf s))) 2 0 → fill ≡ zeros 28
+    → a ≡ pasted (set o at kind) (at + 1) (be 2 256) → b ≡ pasted a (at + 3) s → c ≡ pasted b (at + 71) fill → Wrote o at (tree_bytes t (one (entry_leaf s))) c (at + 99)
 leaf-wrote o a b c fill s at kind t h l w k f ea eb ec =
-    let size = length-take-le 68 s l in
-    let g = record-wrote o a b c (be 2 256) (take 68 s) (zeros 28) at kind (at + 71) h (be-length 2 256) (omega arith) (omega arith) ea eb (ec ∙ ap (pasted b (at + 71)) f) in
+    let all : take 68 s ≡ s = take_all 68 s (omega (arith, l)) in
+    let size = ap length all ∙ l in
+    let g = record-wrote o a b c (be 2 256) (take 68 s) (zeros 28) at kind (at + 71) h (be-length 2 256) (omega (arith, size)) (omega (arith, size)) ea (eb ∙ ap (pasted a (at + 3)) (sym all)) (ec ∙ ap (pasted b (at + 71)) f) in
     let whole : kind ∷ ((be 2 256 ++ take 68 s) ++ zeros 28) ≡ tree_bytes t (one (entry_leaf s)) =
-    ap₂ {C = Bytes} (λ i x. i ∷ x) k (append_assoc (be 2 256) (take 68 s) (zeros 28)) ∙ sym (entry-bytes t s l w) in
+    ap₂ {C = Bytes} (λ i x. i ∷ x) k (append_assoc (be 2 256) (take 68 s) (zeros 28)) ∙ sym (entry-bytes t s (omega (arith, l)) w) in
     record { laid = g.laid ∙ ap (pasted o at) whole; behind = g.behind ∙ ap (λ x. at + length x) whole }
 
 -- ---- sizes: "records of 99 bytes"
@@ -150,20 +152,19 @@ tree-size t (fork p l r) h = by (has_new t l || has_new t r) (tree-size t l (all
     )
     by false x y = ap length (times-one audit_record_field.bytes (opened p (digest (top l)) (digest (top r))))
         ∙ ap length (opened-bytes p (digest (top l)) (digest (top r)))
-        ∙ omega (arith, node-long p (digest (top l) ++ digest (top r)), slot-wide l r)
+        ∙ omega (arith, node-long p (digest (top l) ++ digest (top r)), length-append (digest (top l)) (digest (top r)), (digest-wide (node_string (top l))).size, (digest-wide (node_string (top r))).size)
 
-leaves-held : (n : ℕ) (s : Bytes) → n * 68 ≤ length s → All Held (leaves_in n s)
-unfolding leaves_in
-leaves-held zero s h = tt
-leaves-held (suc n) s h = (length_part s 32 32 (omega arith), leaves-held n (drop 68 s) (omega (arith, length-drop 68 s)))
+fits-held : (x : Node) → LeafFits x → Held x
+fits-held (leaf m c e) h = h.1.size
+fits-held (inner p l r) h = h
+fits-held nothing h = h
 
 -- how many bytes a list has
-pub list-size : (t n : ℕ) (s : Bytes) → n * 68 ≤ length s → length (list_field.bytes (below_root t (root (leaves_in n s)))) ≡ 4 + length (below_root t (root (leaves_in n s))) * 99
+pub list-size : (t : ℕ) (S : List Node) → Sized S → length (list_field.bytes (below_root t (root S))) ≡ 4 + length (below_root t (root S)) * 99
 unfolding root
-list-size t n s h =
-    let S = leaves_in n s in
+list-size t S h =
     let held : (b : Bool) → All Held (entries (build 256 (side ([] ▹ b) S))) = λ b.
-    in-all Held (entries (build 256 (side ([] ▹ b) S))) (λ x m. all_in Held S (leaves-held n s h) x (side-in ([] ▹ b) S x (build-entries 256 (side ([] ▹ b) S) x m))) in
+    in-all Held (entries (build 256 (side ([] ▹ b) S))) (λ x m. fits-held x (all_in LeafFits S h x (side-in ([] ▹ b) S x (build-entries 256 (side ([] ▹ b) S) x m)))) in
     let l = build 256 (side ([] ▹ false) S) in
     let r = build 256 (side ([] ▹ true) S) in
     ap length (list-bytes t (root S) [] l r refl) ∙ omega (

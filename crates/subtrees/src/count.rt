@@ -1,66 +1,62 @@
 // How many records the list of an audit has.
-ghost use Rattle.std.specs.Prelude.{◌≡◌, ◌*◌, ◌≤◌, length};
+ghost use Rattle.std.specs.Prelude.{◌≡◌, length};
 ghost use Rattle.paper.specs.Lists.{some};
 ghost use Rattle.paper.specs.Tree.{one, build, root};
 ghost use Rattle.paper.specs.Write.{has_new, subtrees, below_root};
-ghost use Rattle.paper.specs.Level.{leaves_in};
-ghost use Rattle.tree.specs.Stored.{Sorted, Range};
+ghost use Rattle.paper.specs.Level.{entry_leaf};
+ghost use Rattle.leaf_row.specs.Row.{as_nodes};
+ghost use Rattle.tree.specs.Stored.{Sorted, Range, Part};
 
-use tree::{fork_of, split};
+use leaf_row::Leaf;
+use tree::{Fork, fork_of, split};
 use words::read32;
 
-// Whether one of n leaves is new: "new leaves bear the new epoch".
-pub(crate) fn has_new(s: &[u8], n: usize, epoch: u32) -> bool
-    requires { n * 68 ≤ length s.now }
-    ensures { result ≡ some (λ x. has_new epoch (one x)) (leaves_in n s.now) }
+// Whether a leaf is new: "new leaves bear the new epoch".
+pub(crate) fn is_new(leaf: &Leaf, epoch: u32) -> bool
+    ensures { result ≡ has_new epoch (one (entry_leaf leaf.now)) }
 {
-    for i in 0..n {
-        if read32(s, i * 68 + 64) == epoch {
-            return true;
-        }
-    }
-    false
+    read32(leaf, 64) == epoch
+}
+
+// Whether one of the leaves is new.
+pub(crate) fn has_new(leaves: &[Leaf], epoch: u32) -> bool
+    ensures { result ≡ some (λ x. has_new epoch (one x)) (as_nodes leaves.now) }
+{
+    leaves.iter().any(|leaf| is_new(leaf, epoch))
 }
 
 // The records below the root. Each part shares more bits than the whole did: at most 256 calls stand within one another.
-fn count_below(s: &[u8], n: usize, from: usize, epoch: u32) -> usize
-    requires { (1 ≤ n) × (1 ≤ from) × Sorted n s.now × Range from (leaves_in n s.now) }
-    ensures { result ≡ length (subtrees epoch (build 256 (leaves_in n s.now))) }
+fn count_below(leaves: &[Leaf], from: usize, epoch: u32) -> usize
+    requires { Part from (as_nodes leaves.now) }
+    ensures { result ≡ length (subtrees epoch (build 256 (as_nodes leaves.now))) }
 {
-    if n == 1 {
+    if leaves.len() == 1 {
         return 1;
     }
-    let fork = fork_of(s, n);
-    if !has_new(s, n, epoch) {
+    let Fork { length, left } = fork_of(leaves);
+    if !has_new(leaves, epoch) {
         return 1;
     }
-    let k = fork.length;
-    let m = fork.left;
-    let middle = m * 68;
-    let left = count_below(&s[..middle], m, k + 1, epoch);
-    let right = count_below(&s[middle..], n - m, k + 1, epoch);
-    left + right
+    let (low, high) = leaves.split_at(left);
+    count_below(low, length + 1, epoch) + count_below(high, length + 1, epoch)
 }
 
 // The records of a side of the root, which may be empty.
-fn count_side(s: &[u8], n: usize, epoch: u32) -> usize
-    requires { Sorted n s.now × Range 1 (leaves_in n s.now) }
-    ensures { result ≡ length (subtrees epoch (build 256 (leaves_in n s.now))) }
+fn count_side(leaves: &[Leaf], epoch: u32) -> usize
+    requires { Sorted (as_nodes leaves.now) × Range 1 (as_nodes leaves.now) }
+    ensures { result ≡ length (subtrees epoch (build 256 (as_nodes leaves.now))) }
 {
-    if n == 0 {
+    if leaves.is_empty() {
         return 0;
     }
-    count_below(s, n, 1, epoch)
+    count_below(leaves, 1, epoch)
 }
 
-// The records of the whole tree over n leaves in bit order: both sides of the root, which is not opened itself.
-pub fn list_length(s: &[u8], n: usize, epoch: u32) -> usize
-    requires { Sorted n s.now }
-    ensures { result ≡ length (below_root epoch (root (leaves_in n s.now))) }
+// The records of the whole tree over leaves in bit order: both sides of the root, which is not opened itself.
+pub fn list_length(leaves: &[Leaf], epoch: u32) -> usize
+    requires { Sorted (as_nodes leaves.now) }
+    ensures { result ≡ length (below_root epoch (root (as_nodes leaves.now))) }
 {
-    let m = split(s, n, 0);
-    let middle = m * 68;
-    let left = count_side(&s[..middle], m, epoch);
-    let right = count_side(&s[middle..], n - m, epoch);
-    left + right
+    let (low, high) = leaves.split_at(split(leaves, 0));
+    count_side(low, epoch) + count_side(high, epoch)
 }

@@ -2,6 +2,7 @@
 use mathlib.Core.Path.{◌≡◌, refl, sym, ap, ◌∙◌}
 use mathlib.Core.Bool.{Bool, true, false, cond}
 use mathlib.Core.List.{[], ◌∷◌}
+use Rattle.std.specs.Prelude.{Option, None, Some}
 use Prim.Native.Nat.{ℕ, zero, suc, ◌+◌, ◌*◌, ◌%◌, ◌≤◌, ◌<◌}
 use native.Mathlib.Nat.{mod-lt}
 use native.Mathlib.Numerals.{add-one}
@@ -10,16 +11,22 @@ use lib.ListN.{length, drop, get_or, drop_of_length-le}
 use lib.Seq.{drop-cons}
 use Rattle.paper.specs.Bytes.{Bytes}
 use Rattle.paper.proofs.Lists.{not-both}
-use Rattle.table.specs.Index.{buckets, mixed, bucket_of, last_where}
+use Rattle.table.specs.Index.{buckets, mixed, bucket_of, last_where, up_to}
 
 -- ---- the last number that passes
 
+pub some-none : {o : Option ℕ} {k : ℕ} → o ≡ Some k → o ≡ None → ⊥
+some-none p q = cc
+
+pub some-one : {o : Option ℕ} {j k : ℕ} → o ≡ Some j → o ≡ Some k → j ≡ k
+some-one p q = cc
+
 module _ (t : ℕ → Bool) where
-  pub last_none : last_where t 0 ≡ 0
+  pub last_none : last_where t 0 ≡ None
   unfolding last_where
   last_none = refl
 
-  pub last-yes : (n : ℕ) → t n ≡ true → last_where t (suc n) ≡ suc n
+  pub last-yes : (n : ℕ) → t n ≡ true → last_where t (suc n) ≡ Some n
   unfolding last_where
   last-yes n e = rw e
 
@@ -27,21 +34,21 @@ module _ (t : ℕ → Bool) where
   unfolding last_where
   last-no n e = rw e
 
-  pub last-most : (n : ℕ) → last_where t n ≤ n
-  last-most zero = omega (arith, last_none)
-  last-most (suc n) = by (t n) refl (last-most n)
+  pub last-most : (n k : ℕ) → last_where t n ≡ Some k → k < n
+  last-most zero k h = absurd (some-none h last_none)
+  last-most (suc n) k h = by (t n) refl (last-most n k)
     where
-      by : (b : Bool) → t n ≡ b → last_where t n ≤ n → last_where t (suc n) ≤ suc n
-      by true e h = omega (arith, last-yes n e)
-      by false e h = omega (arith, last-no n e)
+      by : (b : Bool) → t n ≡ b → (last_where t n ≡ Some k → k < n) → k < suc n
+      by true e f = let q : n ≡ k = some-one (last-yes n e) h in omega (arith, q)
+      by false e f = omega (arith, f (sym (last-no n e) ∙ h))
 
   -- it passes
-  pub last-passes : (n k : ℕ) → last_where t n ≡ suc k → t k ≡ true
-  last-passes zero k h = absurd (omega (arith, last_none))
+  pub last-passes : (n k : ℕ) → last_where t n ≡ Some k → t k ≡ true
+  last-passes zero k h = absurd (some-none h last_none)
   last-passes (suc n) k h = by (t n) refl (last-passes n k)
     where
-      by : (b : Bool) → t n ≡ b → (last_where t n ≡ suc k → t k ≡ true) → t k ≡ true
-      by true e f = let q : n ≡ k = omega (arith, last-yes n e) in ap t (sym q) ∙ e
+      by : (b : Bool) → t n ≡ b → (last_where t n ≡ Some k → t k ≡ true) → t k ≡ true
+      by true e f = ap t (sym (some-one (last-yes n e) h)) ∙ e
       by false e f = f (sym (last-no n e) ∙ h)
 
 -- what passes below n decides
@@ -51,13 +58,13 @@ last-same t u zero h = refl
 last-same t u (suc n) h = rw (h n (omega arith), last-same t u n (λ k l. h k (omega arith)))
 
 -- where all that pass one test pass another, the last that passes the first is not above the last that passes the second
-pub last-below : (t u : ℕ → Bool) → ((k : ℕ) → u k ≡ true → t k ≡ true) → (n : ℕ) → last_where u n ≡ last_where u (last_where t n)
+pub last-below : (t u : ℕ → Bool) → ((k : ℕ) → u k ≡ true → t k ≡ true) → (n : ℕ) → last_where u n ≡ last_where u (up_to (last_where t n))
 unfolding last_where
 last-below t u h zero = refl
 last-below t u h (suc n) = by (t n) refl (u n) refl (last-below t u h n)
   where
-    by : (b : Bool) → t n ≡ b → (c : Bool) → u n ≡ c → last_where u n ≡ last_where u (last_where t n)
-        → cond c (suc n) (last_where u n) ≡ last_where u (cond b (suc n) (last_where t n))
+    by : (b : Bool) → t n ≡ b → (c : Bool) → u n ≡ c → last_where u n ≡ last_where u (up_to (last_where t n))
+        → cond c (Some n) (last_where u n) ≡ last_where u (up_to (cond b (Some n) (last_where t n)))
     by true p true q e = sym (last-yes u n q)
     by true p false q e = sym (last-no u n q)
     by false p true q e = not-both (h n q) p

@@ -17,7 +17,8 @@ use Rattle.record.specs.Places.{record_at, records_in}
 use Rattle.record.proofs.Places.{records-none, records-snoc}
 use Rattle.table.specs.Index.{last_where, named}
 use Rattle.table.specs.Shape.{version_follows}
-use Rattle.table.proofs.Last.{last_none, last-yes, last-no}
+use Rattle.std.specs.Prelude.{None, Some}
+use Rattle.table.proofs.Last.{some-none, some-one, last_none, last-yes, last-no}
 
 -- ---- lists with one more at the end
 
@@ -70,20 +71,20 @@ module _ (u : Record → Bool) (s : Bytes) where
   kept-zero = ap (keep u) (records-none s)
 
   -- there is none, or there is a last one
-  pub kept-none : (n : ℕ) → last_where passes n ≡ 0 → kept n ≡ []
+  pub kept-none : (n : ℕ) → last_where passes n ≡ None → kept n ≡ []
   kept-none zero h = kept-zero
   kept-none (suc n) h = by (passes n) refl (kept-none n)
     where
-      by : (b : Bool) → passes n ≡ b → (last_where passes n ≡ 0 → kept n ≡ []) → kept (suc n) ≡ []
-      by true e f = absurd (omega (arith, last-yes passes n e))
+      by : (b : Bool) → passes n ≡ b → (last_where passes n ≡ None → kept n ≡ []) → kept (suc n) ≡ []
+      by true e f = absurd (some-none (last-yes passes n e) h)
       by false e f = kept-no n e ∙ f (sym (last-no passes n e) ∙ h)
 
-  pub kept-last : (n k : ℕ) → last_where passes n ≡ suc k → kept n ≡ kept k ++ (record_at s k ∷ [])
-  kept-last zero k h = absurd (omega (arith, last_none passes))
+  pub kept-last : (n k : ℕ) → last_where passes n ≡ Some k → kept n ≡ kept k ++ (record_at s k ∷ [])
+  kept-last zero k h = absurd (some-none h (last_none passes))
   kept-last (suc n) k h = by (passes n) refl (kept-last n k)
     where
-      by : (b : Bool) → passes n ≡ b → (last_where passes n ≡ suc k → kept n ≡ kept k ++ (record_at s k ∷ [])) → kept (suc n) ≡ kept k ++ (record_at s k ∷ [])
-      by true e f = let q : n ≡ k = omega (arith, last-yes passes n e) in rw (← q) (kept-yes n e)
+      by : (b : Bool) → passes n ≡ b → (last_where passes n ≡ Some k → kept n ≡ kept k ++ (record_at s k ∷ [])) → kept (suc n) ≡ kept k ++ (record_at s k ∷ [])
+      by true e f = let q : n ≡ k = some-one (last-yes passes n e) h in rw (← q) (kept-yes n e)
       by false e f = kept-no n e ∙ f (sym (last-no passes n e) ∙ h)
 
 -- ---- a name's own records among the first n
@@ -93,30 +94,30 @@ module _ (s name : Bytes) where
   own n = own_records plain name (records_in n s)
 
   -- there is none, or there is a last one
-  pub own-none : (n : ℕ) → last_where (named s name) n ≡ 0 → own n ≡ []
+  pub own-none : (n : ℕ) → last_where (named s name) n ≡ None → own n ≡ []
   unfolding own_records
   own-none n h = kept-none (λ r. same_name plain r.name name) s n h
 
-  pub own-last : (n k : ℕ) → last_where (named s name) n ≡ suc k → own n ≡ own k ++ (record_at s k ∷ [])
+  pub own-last : (n k : ℕ) → last_where (named s name) n ≡ Some k → own n ≡ own k ++ (record_at s k ∷ [])
   unfolding own_records
   own-last n k h = kept-last (λ r. same_name plain r.name name) s n k h
 
   -- the version of the last, or 0
-  pub version-none : (n : ℕ) → last_where (named s name) n ≡ 0 → 0 ≡ last_version (own n)
+  pub version-none : (n : ℕ) → last_where (named s name) n ≡ None → 0 ≡ last_version (own n)
   unfolding last_version
   version-none n h = sym (ap last_version (own-none n h))
 
-  pub version-last : (n k : ℕ) → last_where (named s name) n ≡ suc k → (record_at s k).version ≡ last_version (own n)
+  pub version-last : (n k : ℕ) → last_where (named s name) n ≡ Some k → (record_at s k).version ≡ last_version (own n)
   version-last n k h = sym (ap last_version (own-last n k h) ∙ last_snoc (own k) (record_at s k))
 
 -- ---- what may follow the first n records, which are in shape
 
 module _ (s : Bytes) (n : ℕ) (r : Record) where
-  pub follows-none : last_where (named s r.name) n ≡ 0 → version_follows (records_in n s) r ≡ eqb r.version 1
+  pub follows-none : last_where (named s r.name) n ≡ None → version_follows (records_in n s) r ≡ eqb r.version 1
   unfolding every
   follows-none h = rw (own-none s r.name n h) (and-true (eqb r.version 1))
 
-  pub follows-last : (epoch : ℕ) → in_shape plain epoch [] (records_in n s) ≡ true → (k : ℕ) → last_where (named s r.name) n ≡ suc k
+  pub follows-last : (epoch : ℕ) → in_shape plain epoch [] (records_in n s) ≡ true → (k : ℕ) → last_where (named s r.name) n ≡ Some k
       → version_follows (records_in n s) r ≡ (eqb r.version (suc (record_at s k).version) && ltb (record_at s k).epoch r.epoch)
   follows-last epoch shape k h =
       let q = record_at s k in

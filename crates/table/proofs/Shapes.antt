@@ -2,7 +2,7 @@
 -- nothing.
 use mathlib.Core.Path.{◌≡◌, refl, sym, ap, ap₂, ◌∙◌, subst}
 use mathlib.Core.Logic.{by_cases}
-use mathlib.Core.Bool.{Bool, true, false}
+use mathlib.Core.Bool.{true, false}
 use mathlib.Core.List.{List, []}
 use Prim.Native.Nat.{ℕ, suc, ◌*◌, ◌≤◌, ◌<◌}
 use native.Mathlib.Omega.{arith}
@@ -17,7 +17,10 @@ use Rattle.paper.specs.Layout.{Read, got, bad}
 use Rattle.paper.specs.Table.{Record, record_field, counted, head_lies, follows, in_shape}
 use Rattle.paper.proofs.Lists.{and_left, and_right, not-both}
 use Rattle.record.specs.Places.{record_at, records_in}
+use Rattle.std.specs.Prelude.{Option, None, Some}
+use Rattle.std.specs.Option.{is_some}
 use Rattle.table.specs.Index.{Indexed, Unlinked}
+use Rattle.table.specs.declared.index.Index.{Index}
 use Rattle.table.specs.Shape.{shaped_read, shaped, Counted, Tested, Shaped}
 use Rattle.table.proofs.Rules.{shape-none, shape-more, shape-stop}
 use Rattle.record_form.proofs.Formed.{formed}
@@ -42,43 +45,43 @@ passed-more s i epoch p f e = record {
 pub short-fails : (s : Bytes) → Bytewise s → (n epoch : ℕ) → length s < n * record_size → shaped_read epoch (counted s n) ≡ false
 short-fails s w n epoch h = ap (shaped_read epoch) (counted-short s w n h)
 
-module _ (s : Bytes) (w : Bytewise s) (n : ℕ) (room : n * record_size ≤ length s) (epoch : ℕ) (first next : List ℕ) where
-  fails : shaped_read epoch (counted s n) ≡ false → Counted s n epoch first next false
-  fails e = record { is = sym e; index = λ q. not-both q refl; rest = λ q. not-both q refl }
+module _ (s : Bytes) (w : Bytewise s) (n : ℕ) (room : n * record_size ≤ length s) (epoch : ℕ) where
+  pub form-fails : (i : ℕ) → i < n → formed s i ≡ false → Counted s n epoch None
+  form-fails i h f = (ap (shaped_read epoch) (counted-bad s w n room i h f))
 
-  pub form-fails : (i : ℕ) → i < n → formed s i ≡ false → Counted s n epoch first next false
-  form-fails i h f = fails (ap (shaped_read epoch) (counted-bad s w n room i h f))
-
-  pub rule-fails : (i : ℕ) → i < n → follows plain epoch (records_in i s) (record_at s i) ≡ false → Counted s n epoch first next false
-  rule-fails i h f = fails (by (counted s n) refl)
+  pub rule-fails : (i : ℕ) → i < n → follows plain epoch (records_in i s) (record_at s i) ≡ false → Counted s n epoch None
+  rule-fails i h f = (by (counted s n) refl)
     where
       by : (m : Read (List Record)) → counted s n ≡ m → shaped_read epoch m ≡ false
       by bad e = refl
       by (got rs r) e = ap (in_shape plain epoch []) (counted-told s w n rs r e).is ∙ shape-stop s epoch n i h f
 
-  pub all_pass : Passed s n epoch → Indexed s n first next → Unlinked n next → Counted s n epoch first next true
-  all_pass p x u = record { is = sym (ap (shaped_read epoch) (counted-got s w n room p.forms) ∙ p.shape); index = λ q. x; rest = λ q. u }
+  pub all_pass : (y : Index) → y.records.now ≡ s → y.count ≡ n → Passed s n epoch → Indexed s n y → Unlinked n y → Counted s n epoch (Some y)
+  all_pass y r c p x u = record { records = r; count = c; is = ap (shaped_read epoch) (counted-got s w n room p.forms) ∙ p.shape; index = x; rest = u }
 
 -- ---- the tables
 
-module _ (records heads : Bytes) (count epoch : ℕ) (first next : List ℕ) where
-  fail : shaped records heads count epoch ≡ false → Tested records heads count epoch first next false
-  fail e = record { is = sym e; index = λ q. not-both q refl; rest = λ q. not-both q refl }
-
-  pub head-fails : length heads < suc epoch * wide → Tested records heads count epoch first next false
+module _ (records heads : Bytes) (count epoch : ℕ) where
+  pub head-fails : length heads < suc epoch * wide → Tested records heads count epoch None
   unfolding shaped head_lies
-  head-fails h = fail (rw (lt-leb (suc epoch * wide) (length heads) h))
+  head-fails h = rw (lt-leb (suc epoch * wide) (length heads) h)
 
   module _ (lies : suc epoch * wide ≤ length heads) where
     lies-is : shaped records heads count epoch ≡ shaped_read epoch (counted records count)
     unfolding shaped head_lies
     lies-is = rw (le-leb (suc epoch * wide) (length heads) lies)
 
-    pub records-fail : Bytewise records → length records < count * record_size → Tested records heads count epoch first next false
-    records-fail w h = fail (lies-is ∙ short-fails records w count epoch h)
+    pub records-fail : Bytewise records → length records < count * record_size → Tested records heads count epoch None
+    records-fail w h = lies-is ∙ short-fails records w count epoch h
 
-    pub records-decide : (r : Bool) → Counted records count epoch first next r → Tested records heads count epoch first next r
-    records-decide r c = record { is = c.is ∙ sym lies-is; index = c.index; rest = c.rest }
+    pub records-decide : (r : Option Index) → Counted records count epoch r → Tested records heads count epoch r
+    records-decide None c = lies-is ∙ c
+    records-decide (Some x) c = record { is = lies-is ∙ c.is; records = c.records; count = c.count; index = c.index; rest = c.rest }
+
+-- an index is there just where the tables are in shape
+pub found-is : (records heads : Bytes) (count epoch : ℕ) (r : Option Index) → Tested records heads count epoch r → shaped records heads count epoch ≡ is_some r
+found-is records heads count epoch None t = t
+found-is records heads count epoch (Some x) t = t.is
 
 -- ---- what tables in shape say
 

@@ -1,5 +1,5 @@
 -- Document 01, "Publishing": tables in shape, as the tests cite it.
-use Rattle.std.specs.Prelude.{◌≡◌, Bool, true, false, ◌&&◌, List, [], ℕ, suc, ◌*◌, ◌≤◌, ◌<◌, eqb, leb, ltb, length}
+use Rattle.std.specs.Prelude.{◌≡◌, Bool, true, false, ◌&&◌, Option, MatchOption, List, [], ℕ, suc, ◌*◌, ◌≤◌, ◌<◌, eqb, leb, ltb, length}
 use Rattle.paper.specs.Lists.{All, every}
 use Rattle.paper.specs.Numbers.{record_size}
 use Rattle.paper.specs.Bytes.{Bytes}
@@ -8,6 +8,7 @@ use Rattle.paper.specs.Layout.{Read, got, bad}
 use Rattle.paper.specs.Table.{Record, record_field, counted, head_lies, own_records, in_shape}
 use Rattle.record.specs.Places.{records_in, Stands}
 use Rattle.table.specs.Index.{Indexed, Unlinked}
+use Rattle.table.specs.declared.index.Index.{Index}
 
 -- "The counted records and the current head must lie in their tables", and the records obey the rules
 abbrev pub shaped_read : ℕ → Read (List Record) → Bool
@@ -17,17 +18,20 @@ shaped_read epoch (got rs r) = in_shape plain epoch [] rs
 unfoldable pub shaped : Bytes → Bytes → ℕ → ℕ → Bool
 shaped records heads count epoch = head_lies heads epoch && shaped_read epoch (counted records count)
 
--- the answer, and where it is yes the index that is left, every entry of it
-pub record Tested (records heads : Bytes) (count epoch : ℕ) (first next : List ℕ) (r : Bool) : Type 0 where
-  pub is : r ≡ shaped records heads count epoch
-  pub index : r ≡ true → Indexed records count first next
-  pub rest : r ≡ true → Unlinked count next
+-- the index where a test says yes, every entry of it
+pub record Found (s : Bytes) (n : ℕ) (test : Bool) (x : Index) : Type 0 where
+  pub is : test ≡ true
+  pub records : x.records.now ≡ s
+  pub count : x.count ≡ n
+  pub index : Indexed s n x
+  pub rest : Unlinked n x
+
+abbrev pub Tested : Bytes → Bytes → ℕ → ℕ → Option Index → Type 0
+Tested records heads count epoch r = let test = shaped records heads count epoch in MatchOption r (test ≡ false) (Found records count test)
 
 -- the same of the records alone
-pub record Counted (records : Bytes) (count epoch : ℕ) (first next : List ℕ) (r : Bool) : Type 0 where
-  pub is : r ≡ shaped_read epoch (counted records count)
-  pub index : r ≡ true → Indexed records count first next
-  pub rest : r ≡ true → Unlinked count next
+abbrev pub Counted : Bytes → ℕ → ℕ → Option Index → Type 0
+Counted records count epoch r = let test = shaped_read epoch (counted records count) in MatchOption r (test ≡ false) (Found records count test)
 
 -- what is asked of a record behind those before it, in two parts: "epochs lie between 1 and the current one and never fall" ..
 abbrev pub epoch_follows : ℕ → List Record → Record → Bool

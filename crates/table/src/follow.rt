@@ -3,10 +3,10 @@ ghost use Rattle.std.specs.Prelude.{◌≡◌, ℕ, ◌*◌, ◌≤◌, length};
 ghost use Rattle.paper.specs.Labelling.{plain};
 ghost use Rattle.paper.specs.Table.{follows};
 ghost use Rattle.record.specs.Places.{record_at, records_in};
-ghost use Rattle.table.specs.Index.{Indexed, Unlinked};
+ghost use Rattle.table.specs.Index.{Own};
 ghost use Rattle.table.specs.Shape.{epoch_follows, version_follows, Reached, Counted};
 
-use crate::index::{enter, last_of};
+use crate::index::Index;
 use record::{epoch_at, name_at, version_at};
 use record_form::in_form;
 
@@ -28,52 +28,46 @@ fn in_order(s: &[u8], i: usize, epoch: u32) -> bool
     epoch_at(s, i - 1) <= e
 }
 
-// "each name's versions run 1, 2, 3 with rising epochs": the name's last record before record i decides.
-fn runs_on(s: &[u8], i: usize, first: &[u16], next: &[u16]) -> bool
-    requires { (epoch : ℕ) × Reached s.now i epoch × Indexed s.now i first.now next.now }
-    ensures { result ≡ version_follows (records_in i s.now) (record_at s.now i) }
+// "each name's versions run 1, 2, 3 with rising epochs": the name's last record in the index decides of the next one.
+fn runs_on(index: &Index) -> bool
+    requires { (epoch : ℕ) × Reached index.now.records.now index.now.count epoch × Own index.now }
+    ensures { result ≡ version_follows (records_in index.now.count index.now.records.now) (record_at index.now.records.now index.now.count) }
 {
+    let s = index.records;
+    let i = index.count;
     let version = version_at(s, i) as u32;
-    let at = last_of(s, i, first, next, name_at(s, i));
-    if at == 0 {
+    let Some(k) = index.last_of(name_at(s, i)) else {
         return version == 1;
-    }
-    if version != (version_at(s, at - 1) as u32) + 1 {
+    };
+    if version != (version_at(s, k) as u32) + 1 {
         return false;
     }
-    epoch_at(s, at - 1) < epoch_at(s, i)
+    epoch_at(s, k) < epoch_at(s, i)
 }
 
-// Whether record i obeys the rules behind those before it.
-fn does_follow(s: &[u8], i: usize, epoch: u32, first: &[u16], next: &[u16]) -> bool
-    requires { Reached s.now i epoch × Indexed s.now i first.now next.now }
-    ensures { result ≡ follows plain epoch (records_in i s.now) (record_at s.now i) }
+// Whether the next record obeys the rules behind those in the index.
+fn does_follow(index: &Index, epoch: u32) -> bool
+    requires { Reached index.now.records.now index.now.count epoch × Own index.now }
+    ensures { result ≡ follows plain epoch (records_in index.now.count index.now.records.now) (record_at index.now.records.now index.now.count) }
 {
-    if !in_order(s, i, epoch) {
-        return false;
-    }
-    runs_on(s, i, first, next)
+    in_order(index.records, index.count, epoch) && runs_on(index)
 }
 
-// Whether the first n records are in layout and in shape, and if so the index over their names.
-pub(crate) fn all_follow(
-    s: &[u8],
-    n: usize,
-    epoch: u32,
-    first: &mut [u16],
-    next: &mut [u16],
-) -> bool
-    requires { Indexed s.now 0 first.old next.old × (n * 168 ≤ length s.now) × (n ≤ 4096) × Unlinked 0 next.old }
-    ensures { Counted s.now n epoch first.new next.new result }
+// The index over the names of the first n records, if they are in layout and in shape.
+pub(crate) fn all_follow(s: &[u8], n: usize, epoch: u32) -> Option<Index<'_>>
+    requires { (n * 168 ≤ length s.now) × (n ≤ 4096) }
+    ensures { Counted s.now n epoch result }
 {
+    let mut index = Index::new(s);
+    // a `for`: a fold would be no plainer, since each turn asks the index and enters its record
     for i in 0..n {
         if !in_form(s, i) {
-            return false;
+            return None;
         }
-        if !does_follow(s, i, epoch, first, next) {
-            return false;
+        if !does_follow(&index, epoch) {
+            return None;
         }
-        enter(s, i, first, next);
+        index.enter();
     }
-    true
+    Some(index)
 }

@@ -1,19 +1,19 @@
-// The index over names: `first` holds for each bucket 1 + the number of the last record in it, `next` for each record 1 + the number
-// of the last record before it in the same bucket, and 0 says that there is none.
-ghost use Rattle.std.specs.Prelude.{◌≡◌, suc, ◌<◌, length, replicate};
+// The index over names.
+ghost use Rattle.std.specs.Prelude.{◌≡◌, suc, ◌<◌};
 ghost use Rattle.record.specs.Places.{Stands};
-ghost use Rattle.table.specs.Index.{bucket_of, last_where, named, Indexed, Unlinked};
+ghost use Rattle.table.specs.Index.{bucket_of, last_where, named, Own, Unlinked};
 
 use ranges::same;
 use record::name_at;
 
-// An index over no records.
-pub(crate) fn clear(d: &mut [u16])
-    ensures { d.new ≡ replicate (length d.old) 0 }
-{
-    for i in 0..d.len() {
-        d[i] = 0;
-    }
+// The first records of a table: by a bucket the number of the last one in it, and by a record that of the last one before it in the
+// same bucket.
+#[derive(Drop)]
+pub struct Index<'a> {
+    pub records: &'a [u8],
+    pub count: usize,
+    first: [Option<u16>; 4096],
+    next: [Option<u16>; 4096],
 }
 
 // The bucket of a name.
@@ -21,34 +21,51 @@ fn bucket(name: &[u8]) -> usize
     ensures { result ≡ bucket_of name.now }
 {
     let mut h = 0usize;
-    for i in 0..name.len() {
-        h = (h * 31 + (name[i] as usize)) % 4096;
+    for b in name {
+        h = (h * 31 + *b as usize) % 4096;
     }
     h
 }
 
-// 1 + the number of the last of n records that has the name, or 0: the records of its bucket, from the last one back.
-pub(crate) fn last_of(s: &[u8], n: usize, first: &[u16], next: &[u16], name: &[u8]) -> usize
-    requires { Indexed s.now n first.now next.now }
-    ensures { result ≡ last_where (named s.now name.now) n }
-{
-    let b = bucket(name);
-    let mut at = first[b] as usize;
-    while at != 0 {
-        if same(name_at(s, at - 1), name) {
-            return at;
+impl<'a> Index<'a> {
+    // An index over no records yet.
+    pub(crate) fn new(records: &'a [u8]) -> Index<'a>
+        ensures { Own result × Unlinked 0 result × (result.records.now ≡ records.now) × (result.count ≡ 0) }
+    {
+        Index {
+            records,
+            count: 0,
+            first: [None; 4096],
+            next: [None; 4096],
         }
-        at = next[at - 1] as usize;
     }
-    0
-}
 
-// Enters record i, the next one.
-pub(crate) fn enter(s: &[u8], i: usize, first: &mut [u16], next: &mut [u16])
-    requires { Indexed s.now i first.old next.old × Stands s.now i × (i < 4096) × Unlinked i next.old }
-    ensures { Indexed s.now (suc i) first.new next.new × Unlinked (suc i) next.new }
-{
-    let b = bucket(name_at(s, i));
-    next[i] = first[b];
-    first[b] = (i + 1) as u16;
+    // The number of the last record that has the name: the records of its bucket, from the last one back.
+    pub(crate) fn last_of(&self, name: &[u8]) -> Option<usize>
+        requires { Own self.now }
+        ensures { result ≡ last_where (named self.now.records.now name.now) self.now.count }
+    {
+        let mut at = self.first[bucket(name)];
+        // a walk along links, by numbers: references from record to record would need the heap, which the project has not
+        while let Some(k) = at {
+            let k = k as usize;
+            if same(name_at(self.records, k), name) {
+                return Some(k);
+            }
+            at = self.next[k];
+        }
+        None
+    }
+
+    // Enters the next record.
+    pub(crate) fn enter(&mut self)
+        requires { Own self.old × Stands self.old.records.now self.old.count × (self.old.count < 4096) × Unlinked self.old.count self.old }
+        ensures { Own self.new × Unlinked self.new.count self.new × (self.new.records.now ≡ self.old.records.now) × (self.new.count ≡ suc self.old.count) }
+    {
+        let i = self.count;
+        let b = bucket(name_at(self.records, i));
+        self.next[i] = self.first[b];
+        self.first[b] = Some(i as u16);
+        self.count = i + 1;
+    }
 }

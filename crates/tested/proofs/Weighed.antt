@@ -8,18 +8,18 @@ use Rattle.paper.specs.Numbers.{CLASH, ROOM}
 use Rattle.paper.specs.Bytes.{Bytes, pasted}
 use Rattle.paper.specs.Verdict.{verdict}
 use Rattle.paper.specs.declared.State.{State}
-use Rattle.paper.specs.declared.WriteAnswer.TheVariants as W
+use Rattle.paper.specs.Answer.{written, returned}
 use Rattle.tested.specs.Tested.{weighed}
 
 module _ (state : State) (out : Bytes) (clear : Bool) (proof : Bytes) where
-  pub clash : clear ≡ false → weighed state out clear proof ≡ record { answer = W.Refused CLASH state; out = out }
+  pub clash : clear ≡ false → weighed state out clear proof ≡ record { answer = returned state CLASH; out = out }
   unfolding weighed verdict
   clash e = rw e
 
-  pub no_room : clear ≡ true → length out < length proof → weighed state out clear proof ≡ record { answer = W.Refused ROOM state; out = out }
+  pub no_room : clear ≡ true → length out < length proof → weighed state out clear proof ≡ record { answer = returned state ROOM; out = out }
   unfolding weighed verdict
   no_room e h = rw (e, lt-leb (length proof) (length out) h)
 
-  pub written : clear ≡ true → length proof ≤ length out → weighed state out clear proof ≡ record { answer = W.Written (length proof) state; out = pasted out 0 proof }
+  pub wrote : clear ≡ true → length proof ≤ length out → weighed state out clear proof ≡ record { answer = written (length proof) state; out = pasted out 0 proof }
   unfolding weighed verdict
-  written e h = rw (e, le-leb (length proof) (length out) h)
+  wrote e h = rw (e, le-leb (length proof) (length out) h)

@@ -1,12 +1,13 @@
 -- "Writers test 1, 11, 10, 7, 8.": which of the first three refuses, what is known where none does, and what remains then.
-use Rattle.std.specs.Prelude.{◌≡◌, Bool, ◌&&◌, List, [], ◌∷◌, ℕ, ◌≤◌, leb, length}
+use Rattle.std.specs.Prelude.{◌≡◌, Bool, ◌&&◌, List, [], ◌∷◌, ℕ, ◌≤◌, Result, Ok, Err, leb, length}
 use Rattle.paper.specs.Numbers.{records_most, INPUT, TABLE, EPOCH, CLASH, ROOM}
 use Rattle.paper.specs.Bytes.{Bytes, pasted}
 use Rattle.paper.specs.Verdict.{Test, test, verdict}
 use Rattle.paper.specs.Table.{records_within, heads_within}
 use Rattle.paper.specs.Write.{Written}
 use Rattle.paper.specs.declared.State.{State}
-use Rattle.paper.specs.declared.WriteAnswer.TheVariants as W
+use Rattle.paper.specs.Answer.{written, returned}
+use Rattle.paper.specs.declared.Refusal.{Refusal}
 use Rattle.table.specs.Shape.{shaped, Shaped}
 
 -- "1 INPUT", with what a writer asks of its own argument
@@ -21,9 +22,9 @@ module _ (records heads : Bytes) (state : State) (t : ℕ) where
       ∷ test EPOCH (leb t state.epoch)
       ∷ []
 
-  -- the number of the first that refuses, or 0
-  abbrev pub first_refusal : Bool → ℕ
-  first_refusal good = verdict (λ n. n) 0 (first_tests good)
+  -- the first that refuses, if any does
+  abbrev pub first_refusal : Bool → Result (Unit {0}) Refusal
+  first_refusal good = verdict Err (Ok tt) (first_tests good)
 
   -- what is known of tables and epoch where none refuses
   pub record Sound : Type 0 where
@@ -31,11 +32,11 @@ module _ (records heads : Bytes) (state : State) (t : ℕ) where
     pub by : t ≤ state.epoch
     pub few : state.count ≤ records_most
 
-  pub record Tested (good : Bool) (r : ℕ) : Type 0 where
+  pub record Tested (good : Bool) (r : Result (Unit {0}) Refusal) : Type 0 where
     pub is : r ≡ first_refusal good
-    pub sound : r ≡ 0 → Sound
+    pub sound : r ≡ Ok tt → Sound
 
 -- what remains: a proof is written if its tests of 7 pass and it has room
 unfoldable pub weighed : State → Bytes → Bool → Bytes → Written
 weighed state out clear proof =
-    verdict (λ n. record { answer = W.Refused n state; out = out }) (record { answer = W.Written (length proof) state; out = pasted out 0 proof }) (test CLASH clear ∷ test ROOM (leb (length proof) (length out)) ∷ [])
+    verdict (λ r. record { answer = returned state r; out = out }) (record { answer = written (length proof) state; out = pasted out 0 proof }) (test CLASH clear ∷ test ROOM (leb (length proof) (length out)) ∷ [])

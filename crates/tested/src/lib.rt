@@ -5,49 +5,36 @@ ghost use Rattle.std.specs.Prelude.{◌≡◌};
 ghost use Rattle.tested.specs.Tested.{input_good, Tested};
 
 use bounds::{heads_within, records_within};
-use paper::State;
+use paper::{Refusal, State};
 use table::in_shape;
 
 // "1 INPUT": the bounds of both tables, and what the writer asks of its own argument.
+#[tactic(auto, unfolding(crate::specs::Tested::input_good))]
 fn input_good(records: &[u8], heads: &[u8], good: bool) -> bool
     ensures { result ≡ input_good records.now heads.now good }
 {
-    if !records_within(records) {
-        return false;
-    }
-    if !heads_within(heads) {
-        return false;
-    }
-    good
+    records_within(records) && heads_within(heads) && good
 }
 
-// An index over names, empty.
-fn index() -> [u16; 4096] {
-    [0u16; 4096]
-}
-
-// The number of the first test that refuses, or 0. `good` is what the writer asks of its own argument: a name's bounds, or a new epoch
+// The first test that refuses, if any does. `good` is what the writer asks of its own argument: a name's bounds, or a new epoch
 // that is not 0.
-pub fn refusal(records: &[u8], heads: &[u8], state: State, epoch: u32, good: bool) -> u8
+pub fn first_tests(
+    records: &[u8],
+    heads: &[u8],
+    state: State,
+    epoch: u32,
+    good: bool,
+) -> Result<(), Refusal>
     ensures { Tested records.now heads.now state epoch good result }
 {
     if !input_good(records, heads, good) {
-        return 1;
+        return Err(Refusal::Input);
     }
-    let mut first = index();
-    let mut next = index();
-    if !in_shape(
-        records,
-        heads,
-        state.count,
-        state.epoch,
-        &mut first,
-        &mut next,
-    ) {
-        return 11;
+    if in_shape(records, heads, state.count, state.epoch).is_none() {
+        return Err(Refusal::Table);
     }
     if state.epoch < epoch {
-        return 10;
+        return Err(Refusal::Epoch);
     }
-    0
+    Ok(())
 }

@@ -2,30 +2,27 @@
 -- right side. Assumes nothing.
 use mathlib.Core.Path.{◌≡◌, refl, sym, ap, ◌∙◌}
 use mathlib.Core.Bool.{Bool, true, false, cond, true≢false, false≢true}
-use mathlib.Core.List.{List, [], ◌∷◌, ◌++◌, append_assoc}
-use Prim.Native.Nat.{ℕ, zero, suc, ◌+◌, ◌-◌, ◌*◌, ◌≤◌, ◌<◌}
+use mathlib.Core.List.{List, [], ◌∷◌, ◌++◌}
+use Prim.Native.Nat.{ℕ, zero, suc, ◌+◌, ◌-◌, ◌≤◌, ◌<◌}
 use native.Mathlib.Omega.{arith}
-use lib.ListN.{length, take, drop, length-append}
-use lib.Seq.{take_at, drop_at, drop-drop, take-take}
+use lib.ListN.{length, take, drop, get_or, length-append, length-drop}
+use lib.Seq.{take_at, drop_at, drop-drop, length-take-le}
+use Rattle.std.proofs.lemmas.List.{take_rest}
 use Rattle.paper.specs.Lists.{All, keep}
-use Rattle.paper.specs.Bytes.{Bytes}
 use Rattle.paper.specs.Bits.{Bits, Pfx, starts, ◌▹◌}
-use Rattle.paper.specs.Strings.{Node, node_string}
-use Rattle.paper.specs.Tree.{key, digest, Tree, fork, top, common, side, build}
-use Rattle.paper.specs.Level.{leaves_in}
+use Rattle.paper.specs.Strings.{Node}
+use Rattle.paper.specs.Tree.{key, Tree, fork, common, side, build}
 use Rattle.paper.proofs.Lists.{in-all}
 use Rattle.paper.proofs.Bits.{pfx-length, pfx-one-way, pfx-starts, length-snoc}
 use Rattle.paper.proofs.Tree.{Free, common-most, common-next, side-all, side-below, side-free, sides-full}
 use Rattle.paper.proofs.Walk.{no-starts}
-use Rattle.paper.proofs.Fits.{digest-wide}
 use Rattle.bit_order.proofs.Sides.{ordered-free}
-use Rattle.ranges.proofs.Slices.{rest-is}
-use Rattle.tree.specs.Stored.{flat, Sorted, Range}
-use Rattle.bit_order.proofs.Leaves.{leaves-length, leaves-long}
-use Rattle.tree.proofs.Leaves.{long-short, leaves-some}
 use Rattle.bit_order.proofs.Order.{rising-ordered}
-use Rattle.tree.proofs.Slots.{slot-wide}
-use Rattle.tree.proofs.Halves.{before, behind, Halves, before-sorted, behind-sorted}
+use Rattle.leaf_row.proofs.Rows.{sized-long}
+use Rattle.tree.specs.Stored.{children, flat, Sorted, Range}
+use Rattle.tree.specs.declared.Children.{Children}
+use Rattle.tree.proofs.Leaves.{long-short, some-leaves}
+use Rattle.tree.proofs.Halves.{Halves, taken, before-sorted, behind-sorted}
 
 -- each goes to one side
 sides_all : (p : Bits) (S : List Node) → All (λ x. (b : Bool) × Pfx (p ▹ b) (key x)) S → length (side (p ▹ false) S) + length (side (p ▹ true) S) ≡ length S
@@ -38,17 +35,12 @@ sides_all p (x ∷ S) h = by h.0.0 h.0.1 (sides_all p S h.1)
     by true w e = rw (pfx-starts (p ▹ true) (key x) w, no-starts (p ▹ false) (key x) (λ v. false≢true (pfx-one-way p false true v w))) (omega arith)
     by false w e = rw (pfx-starts (p ▹ false) (key x) w, no-starts (p ▹ true) (key x) (λ v. true≢false (pfx-one-way p true false v w))) (omega arith)
 
-fork-size : (p : Bits) (l r : Tree) → length (flat (fork p l r)) ≡ length (flat l) + 64 + length (flat r)
+fork-size : (p : Bits) (l r : Tree) → length (flat (fork p l r)) ≡ length (flat l) + 1 + length (flat r)
 unfolding flat
-fork-size p l r = omega (
-  arith,
-  length-append (flat l) ((digest (top l) ++ digest (top r)) ++ flat r),
-  length-append (digest (top l) ++ digest (top r)) (flat r),
-  slot-wide l r,
-)
+fork-size p l r = length-append (flat l) (children l r ∷ flat r) ∙ omega arith
 
 build-flat : (n : ℕ) (q : Bits) (S : List Node) → Free S → All (λ y. length (key y) ≤ 256) S → All (λ y. Pfx q (key y)) S → 256 < n + length q → ¬ (S ≡ [])
-    → length (flat (build n S)) + 64 ≡ length S * 64
+    → length (flat (build n S)) + 1 ≡ length S
 unfolding build flat
 build-flat zero q [] f b h k ne = absurd (ne refl)
 build-flat (suc n) q [] f b h k ne = absurd (ne refl)
@@ -57,70 +49,62 @@ build-flat (suc n) q (x ∷ []) f b h k ne = omega arith
 build-flat (suc n) q (x ∷ y ∷ S) f b h k ne =
     let p = common x (y ∷ S) in
     let T = x ∷ y ∷ S in
-    let half : (d : Bool) → length (flat (build n (side (p ▹ d) T))) + 64 ≡ length (side (p ▹ d) T) * 64 = λ d.
+    let half : (d : Bool) → length (flat (build n (side (p ▹ d) T))) + 1 ≡ length (side (p ▹ d) T) = λ d.
     build-flat n (p ▹ d) (side (p ▹ d) T) (side-free _ T f) (side-all _ _ T b) (side-below _ T) (omega (arith, length-snoc p d, pfx-length (common-most q x (y ∷ S) h))) (sides-full x y S f d) in
     omega (arith, fork-size p (build n (side (p ▹ false) T)) (build n (side (p ▹ true) T)), half false, half true, sides_all p T (in-all _ T (common-next x y S f)))
 
-pub flat-size : (n from : ℕ) (s : Bytes) → Sorted n s → Range from (leaves_in n s) → 1 ≤ from → 1 ≤ n → length (flat (build 256 (leaves_in n s))) ≡ (n - 1) * 64
-flat-size n from s w r l h =
-    let S = leaves_in n s in
-    let short = long-short S (leaves-long n s (omega (arith, w.size))) in
-    omega (arith, leaves-length n s, build-flat 256 r.shared S (ordered-free S (rising-ordered S w.rises)) short r.shares (omega (arith, r.size)) (leaves-some n s h))
+pub flat-size : (from : ℕ) (S : List Node) → Sorted S → Range from S → 1 ≤ from → 1 ≤ length S → length (flat (build 256 S)) ≡ length S - 1
+flat-size from S w r l h =
+    let short = long-short S (sized-long S w.sized) in
+    omega (arith, build-flat 256 r.shared S (ordered-free S (rising-ordered S w.rises)) short r.shares (omega (arith, r.size)) (some-leaves S h))
 
--- ---- the slots of a fork, where n leaves part
+-- ---- the slots of a fork, where leaves part
 
-module _ (n from : ℕ) (s : Bytes) (k m : ℕ) (w : Sorted n s) (h : Halves n from s k m) (slots : Bytes) (e : slots ≡ flat (build 256 (leaves_in n s))) where
+module _ (from : ℕ) (S : List Node) (k m : ℕ) (w : Sorted S) (h : Halves from S k m) (slots : List Children) (e : slots ≡ flat (build 256 S)) where
   abbrev low : Tree
-  low = build 256 (leaves_in m (before m s))
+  low = build 256 (take m S)
 
   abbrev high : Tree
-  high = build 256 (leaves_in (n - m) (behind m s))
+  high = build 256 (drop m S)
 
-  parts : slots ≡ flat low ++ ((digest (top low) ++ digest (top high)) ++ flat high)
+  parts : slots ≡ flat low ++ (children low high ∷ flat high)
   unfolding flat
   parts = e ∙ ap flat h.tree
 
-  low-size : length (flat low) ≡ (m - 1) * 64
-  low-size = flat-size m (k + 1) (before m s) (before-sorted n s w m (omega (arith, h.less))) h.left (omega arith) h.least
+  low-size : length (flat low) ≡ m - 1
+  low-size =
+      let l = length-take-le m S (omega (arith, h.less)) in
+      flat-size (k + 1) (take m S) (before-sorted S w m) h.left (omega arith) (omega (arith, l, h.least)) ∙ ap (λ i. i - 1) l
 
-  high-size : length (flat high) ≡ (n - m - 1) * 64
-  high-size = flat-size (n - m) (k + 1) (behind m s) (behind-sorted n s w m (omega (arith, h.less))) h.right (omega arith) (omega (arith, h.less))
+  high-size : length (flat high) ≡ length S - m - 1
+  high-size =
+      let l = length-drop m S in
+      flat-size (k + 1) (drop m S) (behind-sorted S w m) h.right (omega arith) (omega (arith, l, h.less)) ∙ ap (λ i. i - 1) l
 
-  pub slots-size : length slots ≡ (n - 1) * 64
-  slots-size = ap length parts ∙ omega (
-    arith,
-    length-append (flat low) ((digest (top low) ++ digest (top high)) ++ flat high),
-    length-append (digest (top low) ++ digest (top high)) (flat high),
-    low-size,
-    slot-wide low high,
-    high-size,
-    h.least,
-    h.less,
-  )
+  pub slots-size : length slots ≡ length S - 1
+  slots-size = ap length parts ∙ omega (arith, length-append (flat low) (children low high ∷ flat high), low-size, high-size, h.least, h.less)
 
-  pub low-slots : take ((m - 1) * 64) slots ≡ flat low
-  low-slots = ap (take ((m - 1) * 64)) parts ∙ take_at (flat low) _ ((m - 1) * 64) low-size
+  pub low-slots : take (m - 1) slots ≡ flat low
+  low-slots = ap (take (m - 1)) parts ∙ take_at (flat low) _ (m - 1) low-size
 
-  from-slot : drop ((m - 1) * 64) slots ≡ (digest (top low) ++ digest (top high)) ++ flat high
-  from-slot = ap (drop ((m - 1) * 64)) parts ∙ drop_at (flat low) _ ((m - 1) * 64) low-size
+  from-slot : drop (m - 1) slots ≡ children low high ∷ flat high
+  from-slot = ap (drop (m - 1)) parts ∙ drop_at (flat low) _ (m - 1) low-size
 
-  pub the-slot : take 64 (drop ((m - 1) * 64) slots) ≡ digest (top low) ++ digest (top high)
-  the-slot = ap (take 64) from-slot ∙ take_at (digest (top low) ++ digest (top high)) (flat high) 64 (slot-wide low high)
+  pub the-slot : (d : Children) → get_or slots (m - 1) d ≡ children low high
+  the-slot d = first (m - 1) slots from-slot
+    where
+      first : (i : ℕ) (l : List Children) → drop i l ≡ children low high ∷ flat high → get_or l i d ≡ children low high
+      first zero [] q = cc
+      first zero (x ∷ l) q = cc
+      first (suc i) [] q = cc
+      first (suc i) (x ∷ l) q = first i l q
 
-  pub high-slots : take (length slots - m * 64) (drop (m * 64) slots) ≡ flat high
+  pub high-slots : take (length slots - m) (drop m slots) ≡ flat high
   high-slots =
-      let a : m * 64 ≡ (m - 1) * 64 + 64 = omega (arith, h.least) in
-      rest-is slots (m * 64) ∙ ap (λ i. drop i slots) a ∙ sym (drop-drop 64 ((m - 1) * 64) slots) ∙ ap (drop 64) from-slot ∙ drop_at (digest (top low) ++ digest (top high)) (flat high) 64 (slot-wide low high)
+      let a : m ≡ m - 1 + 1 = omega (arith, h.least) in
+      take_rest slots m ∙ ap (λ i. drop i slots) a ∙ sym (drop-drop 1 (m - 1) slots) ∙ ap (drop 1) from-slot
 
-  -- the digest of either side is in the slot
-  pub low-digest : take 32 (drop ((m - 1) * 64) slots) ≡ digest (top low)
-  low-digest =
-      sym (take-take 32 64 (drop ((m - 1) * 64) slots) (omega arith)) ∙ ap (take 32) the-slot
-      ∙ take_at (digest (top low)) (digest (top high)) 32 (digest-wide (node_string (top low))).size
-
-  pub high-digest : take 32 (drop ((m - 1) * 64 + 32) slots) ≡ digest (top high)
-  high-digest =
-      let x = digest (top low) in
-      let y = digest (top high) in
-      ap (take 32) (sym (drop-drop 32 ((m - 1) * 64) slots) ∙ ap (drop 32) (from-slot ∙ append_assoc x y (flat high)) ∙ drop_at x (y ++ flat high) 32 (digest-wide (node_string (top low))).size)
-      ∙ take_at y (flat high) 32 (digest-wide (node_string (top high))).size
+  -- the slots of the side that a bit takes
+  pub inside-taken : (b : Bool) → cond b (take (length slots - m) (drop m slots)) (take (m - 1) slots) ≡ flat (build 256 (taken b m S))
+  inside-taken true = high-slots
+  inside-taken false = low-slots

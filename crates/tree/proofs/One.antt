@@ -8,13 +8,12 @@ use native.Mathlib.Omega.{arith}
 use native.Mathlib.Decide.{dec_lt}
 use lib.ListN.{length, take, drop, get_or, length-drop, get_or-append}
 use lib.Seq.{get_or-take, get_or-drop, length-take-le}
-use Rattle.paper.specs.Bytes.{Bytes}
 use Rattle.paper.specs.Bits.{Pfx}
 use Rattle.paper.specs.Strings.{Node, nothing}
 use Rattle.paper.specs.Tree.{key, digest, top, build}
-use Rattle.paper.specs.Level.{leaves_in}
 use Rattle.paper.proofs.Lists.{not-both, all_get_d}
 use Rattle.tree.specs.Stored.{Range, Cut, Forked, Laid}
+use Rattle.tree.specs.declared.Children.{Children}
 use Rattle.tree.specs.declared.Sides.{Sides}
 use Rattle.tree.proofs.Rising.{bit_at}
 
@@ -54,9 +53,9 @@ fork-one S k m l n f g =
         (shared-bit S l k g.shared h m 0 f.less (omega (arith, f.less)) ∙ low-at k S m f.cut 0 f.least)
 
 -- the stored tree: the sides, and every slot
-pub laid_one : (n : ℕ) (s old a b : Bytes) (q r : Sides) → Laid n s old a q → Laid n s old b r → (a ≡ b) × (q ≡ r)
-laid_one n s old a b q r x y =
-    let e = cut-one 0 (leaves_in n s) q.split r.split x.stored.cut y.stored.cut in
-    let left : q.left ≡ r.left = x.stored.left.node ∙ ap (λ m. digest (top (build 256 (take m (leaves_in n s))))) e ∙ sym y.stored.left.node in
-    let right : q.right ≡ r.right = x.stored.right.node ∙ ap (λ m. digest (top (build 256 (drop m (leaves_in n s))))) e ∙ sym y.stored.right.node in
-    (x.whole ∙ rw e (sym y.whole), λ i. record { split = e i; left = left i; right = right i })
+pub laid_one : (S : List Node) (old a b : List Children) (q r : Sides) → Laid S old a q → Laid S old b r → (a ≡ b) × (q ≡ r)
+laid_one S old a b q r x y =
+    let e = cut-one 0 S q.split r.split x.stored.cut y.stored.cut in
+    let left : q.children.left ≡ r.children.left = x.stored.left.node ∙ ap (λ m. digest (top (build 256 (take m S)))) e ∙ sym y.stored.left.node in
+    let right : q.children.right ≡ r.children.right = x.stored.right.node ∙ ap (λ m. digest (top (build 256 (drop m S)))) e ∙ sym y.stored.right.node in
+    (x.whole ∙ rw e (sym y.whole), λ i. record { split = e i; children = record { left = left i; right = right i } })

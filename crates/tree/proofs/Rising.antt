@@ -1,7 +1,7 @@
 -- Leaves in bit order: at the bit behind what they share no 0 stands behind a 1. Assumes nothing.
-use mathlib.Core.Path.{◌≡◌, sym, ap, ◌∙◌, subst}
+use mathlib.Core.Path.{◌≡◌, refl, sym, ap, ◌∙◌, subst}
 use mathlib.Core.Logic.{⊎_elim}
-use mathlib.Core.Bool.{Bool, true, false}
+use mathlib.Core.Bool.{Bool, true, false, not}
 use mathlib.Core.List.{List, [], ◌∷◌}
 use Prim.Native.Nat.{ℕ, zero, suc, ◌+◌, ◌≤◌, ◌<◌}
 use native.Mathlib.Omega.{arith}
@@ -9,17 +9,21 @@ use native.Mathlib.Nat.{eq-or-lt_of_le}
 use lib.Dec.{ltb}
 use lib.ListN.{length, take, drop, get_or, length-drop, get_or-eq_default}
 use lib.Seq.{get_or-take, get_or-drop, length-take-le}
-use borrow.Author.Tests.{ltb-true, ltb-false}
+use borrow.Author.Tests.{ltb-true, ltb-false, not-true, not-false}
+use Rattle.std.specs.List.Sorted.{IsPartitionedBy, IsPartitionPoint}
 use Rattle.paper.specs.Lists.{All}
-use Rattle.paper.specs.Bits.{Bits, Pfx, ◌▹◌}
+use Rattle.paper.specs.Bytes.{Bytes}
+use Rattle.paper.specs.Bits.{Bits, Pfx, ◌▹◌, bits_of}
 use Rattle.paper.specs.Strings.{Node, nothing}
 use Rattle.paper.specs.Tree.{key}
 use Rattle.paper.proofs.Lists.{true-or-false, not-both, all_get_d}
 use Rattle.paper.proofs.Bits.{pfx-trans, pfx-snoc, pfx-one-way, pfx-length, length-snoc}
 use Rattle.paper.proofs.Order.{Before}
-use Rattle.bit_order.proofs.Order.{before-once, Ordered}
+use Rattle.bit_order.proofs.Order.{before-once, Ordered, rising-ordered}
 use Rattle.bit_order.proofs.Cut.{pfx-goes-on}
-use Rattle.tree.specs.Stored.{Range, Cut}
+use Rattle.leaf_row.specs.Row.{as_nodes}
+use Rattle.leaf_row.proofs.Rows.{nodes-length, node_at, sized-long}
+use Rattle.tree.specs.Stored.{Sorted, Range, Cut}
 
 -- what holds at each place holds of all
 pub all-at : {A : Type 0} (P : A → Type 0) (l : List A) (d : A) → ((i : ℕ) → i < length l → P (get_or l i d)) → All P l
@@ -74,3 +78,28 @@ cut_at S k m h low high = record {
       rw (get_or-take m S i nothing q) (low i q));
   high = all-at _ (drop m S) nothing (λ i l. rw (get_or-drop m S i nothing) (high (m + i) (omega arith) (omega (arith, length-drop m S))));
 }
+
+-- ---- a cut of a row, as the bits of its labels tell it
+
+get_or-same : {A : Type 0} (l : List A) (i : ℕ) (d e : A) → i < length l → get_or l i d ≡ get_or l i e
+get_or-same [] i d e h = absurd (omega arith)
+get_or-same (x ∷ l) zero d e h = refl
+get_or-same (x ∷ l) (suc i) d e h = get_or-same l i d e (omega arith)
+
+-- whether a leaf goes left at bit k
+abbrev pub goes_left : ℕ → Bytes → Bool
+goes_left k e = not (get_or (bits_of (take 32 e)) k false)
+
+module _ (row : List Bytes) (k : ℕ) (w : Sorted (as_nodes row)) (r : Range k (as_nodes row)) where
+  left-at : (i : ℕ) (d : Bytes) → i < length row → goes_left k (get_or row i d) ≡ not (bit_at (as_nodes row) k i)
+  left-at i d h = ap (goes_left k) (get_or-same row i d [] h) ∙ ap (λ x. not (get_or (key x) k false)) (sym (node_at row i h))
+
+  pub left-first : IsPartitionedBy (goes_left k) row
+  left-first i j d h l e =
+      let f = not-true _ (sym (left-at j d l) ∙ e) in
+      left-at i d (omega arith) ∙ ap not (sinks (as_nodes row) k (rising-ordered _ w.rises) r (sized-long _ w.sized) i j h (omega (arith, nodes-length row)) f)
+
+  pub cut-row : (m : ℕ) → m ≤ length row → IsPartitionPoint (λ e. goes_left k e ≡ true) (λ e. goes_left k e ≡ false) row m → Cut k (as_nodes row) m
+  cut-row m h p = cut_at (as_nodes row) k m (omega (arith, nodes-length row))
+      (λ i l. not-true _ (sym (left-at i [] (omega arith)) ∙ p.0 i [] (omega arith) l))
+      (λ i l q. let n : i < length row = omega (arith, nodes-length row) in not-false _ (sym (left-at i [] n) ∙ p.1 i [] l n))

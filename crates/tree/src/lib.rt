@@ -1,29 +1,76 @@
-// The tree over leaves in bit order, which stand one behind the other in 68 bytes each, as in a leaf's string. The digests of an inner
-// node's two children are kept in a slot of 64 bytes: the node stands between the two leaves between which it splits its range, and so
-// does its slot. A path is then written without hashing anything.
+// The tree over leaves in bit order. The digests of an inner node's two children are kept in a slot: the node stands between the two
+// leaves between which it splits its range, and so does its slot. A path is then written without hashing anything.
 //
 // Each side of the root has as many slots as leaves, of which the last is spare.
 #![tactic(auto)]
 
-ghost use Rattle.std.specs.Prelude.{◌≡◌, [], ◌++◌, ◌+◌, ◌-◌, ◌*◌, ◌≤◌, length, take, drop};
-ghost use Rattle.paper.specs.Bytes.{pasted};
+ghost use Rattle.std.specs.Prelude.{◌≡◌, cond, [], ◌+◌, ◌≤◌, length, take};
 ghost use Rattle.paper.specs.Strings as S;
 ghost use Rattle.paper.specs.Tree as T;
-ghost use Rattle.paper.specs.Level.{entry_leaf, leaves_in};
-ghost use Rattle.ranges.specs.Part.{PartAt};
-ghost use Rattle.tree.specs.Stored.{Sorted, Range, Part, Cut, Forked, BelowLaid, SideLaid, Laid};
+ghost use Rattle.paper.specs.Level.{entry_leaf};
+ghost use Rattle.leaf_row.specs.Row.{as_nodes};
+ghost use Rattle.tree.specs.Stored.{Sorted, Range, Part, Cut, Forked, BelowLaid, SideLaid, Laid, Kept};
 
 use bits::{first_difference, label_bit, prefix_of};
+use leaf_row::{Leaf, label_of};
 use nodes::{inner, leaf, nothing};
-use ranges::{digest_at, put};
+use ranges::digest_at;
 use words::read32;
 
-// The root's two sides over n leaves: the first `split` leaves are on the left, the others on the right, and each side has a digest.
+// A slot: the digests of an inner node's two children.
+#[derive(Clone, Copy)]
+pub struct Children {
+    pub left: [u8; 32],
+    pub right: [u8; 32],
+}
+
+impl Children {
+    // The sibling of a label's step: the digest of the side that the label does not take.
+    pub fn sibling(&self, right: bool) -> &[u8; 32]
+        ensures { result.now ≡ cond right self.now.left self.now.right }
+    {
+        if right { &self.left } else { &self.right }
+    }
+}
+
+// The root's two sides: the first `split` leaves are on the left, the others on the right, and each side has a digest.
 #[derive(Clone, Copy)]
 pub struct Sides {
     pub split: usize,
-    pub left: [u8; 32],
-    pub right: [u8; 32],
+    pub children: Children,
+}
+
+// A stored tree: its leaves in bit order, their slots, and the root's sides.
+#[derive(Clone, Copy)]
+pub struct StoredTree<'a> {
+    pub leaves: &'a [Leaf],
+    pub slots: &'a [Children],
+    pub sides: Sides,
+}
+
+impl<'a> StoredTree<'a> {
+    // Stores the tree over leaves, in as many slots.
+    pub fn store(leaves: &'a [Leaf], slots: &'a mut [Children]) -> StoredTree<'a>
+        requires { Sorted (as_nodes leaves.now) × (length slots.old ≡ length leaves.now) }
+        ensures tree { Kept result }
+        ensures leaves { result.leaves.now ≡ leaves.now }
+    {
+        let sides = store(leaves, slots);
+        StoredTree {
+            leaves,
+            slots,
+            sides,
+        }
+    }
+
+    // "The root has prefix length 0 and is always an inner node.": the node over the two sides, and of a tree as `store` leaves it the root.
+    pub fn root(&self) -> [u8; 32]
+        ensures over { result ≡ T.digest (S.inner [] self.now.sides.children.left self.now.sides.children.right) }
+        ensures kept { Kept self.now → result ≡ T.root_digest (as_nodes self.now.leaves.now) }
+    {
+        let Children { left, right } = self.sides.children;
+        inner(0, &[0u8; 32], &left, &right)
+    }
 }
 
 // Where leaves part: the length of their longest common prefix, and how many of them go left behind it.
@@ -33,129 +80,93 @@ pub struct Fork {
     pub left: usize,
 }
 
-// The label of leaf i, as a part of the lent bytes.
-pub fn label_of(s: &[u8], i: usize) -> &[u8]
-    requires { i * 68 + 68 ≤ length s.now }
-    ensures { PartAt s.entry (i * 68) (take 32 (drop (i * 68) s.now)) result }
+// "one label gives its leaf": its digest.
+fn leaf_digest(one: &Leaf) -> [u8; 32]
+    ensures { result ≡ T.digest (entry_leaf one.now) }
 {
-    let start = i * 68;
-    let after = start + 32;
-    &s[start..after]
+    let label = digest_at(one, 0);
+    let commitment = digest_at(one, 32);
+    leaf(&label, &commitment, read32(one, 64))
 }
 
-// "one label gives its leaf": the digest of the first leaf.
-fn leaf_digest(s: &[u8]) -> [u8; 32]
-    requires { 68 ≤ length s.now }
-    ensures { result ≡ T.digest (entry_leaf s.now) }
+// "the bit after the prefix sends each label left (0) or right (1)": how many of the leaves, which share k bits, go left at bit k. In
+// bit order those stand first.
+pub fn split(leaves: &[Leaf], k: usize) -> usize
+    requires { Sorted (as_nodes leaves.now) × Range k (as_nodes leaves.now) }
+    ensures { Cut k (as_nodes leaves.now) result }
 {
-    let label = digest_at(s, 0);
-    let commitment = digest_at(s, 32);
-    leaf(&label, &commitment, read32(s, 64))
-}
-
-// "the bit after the prefix sends each label left (0) or right (1)": how many of n leaves that share k bits go left at bit k. In bit
-// order those stand first, and the place is found by halving.
-pub fn split(s: &[u8], n: usize, k: usize) -> usize
-    requires { Sorted n s.now × Range k (leaves_in n s.now) }
-    ensures { Cut k (leaves_in n s.now) result }
-{
-    let mut low = 0;
-    let mut high = n;
-    while low < high {
-        let middle = low + (high - low) / 2;
-        if label_bit(label_of(s, middle), k) {
-            high = middle;
-        } else {
-            low = middle + 1;
-        }
-    }
-    low
+    leaves.partition_point(|leaf| !label_bit(label_of(leaf), k))
 }
 
 // Where two or more leaves part: how many bits they share, and how many of them go left at the next one.
-pub fn fork_of(s: &[u8], n: usize) -> Fork
-    requires { (2 ≤ n) × Sorted n s.now }
-    ensures { Forked (leaves_in n s.now) result.length result.left }
+pub fn fork_of(leaves: &[Leaf]) -> Fork
+    requires { (2 ≤ length leaves.now) × Sorted (as_nodes leaves.now) }
+    ensures { Forked (as_nodes leaves.now) result.length result.left }
 {
-    let k = first_difference(label_of(s, 0), label_of(s, n - 1));
+    let last = leaves.len() - 1;
+    let length = first_difference(label_of(&leaves[0]), label_of(&leaves[last]));
     Fork {
-        length: k,
-        left: split(s, n, k),
+        length,
+        left: split(leaves, length),
     }
 }
 
-// The inner node over leaves that share k bits, of which the first stands at the start of s.
-fn fork_digest(s: &[u8], k: usize, left: &[u8; 32], right: &[u8; 32]) -> [u8; 32]
-    requires { (68 ≤ length s.now) × (k ≤ 256) }
-    ensures { result ≡ T.digest (S.inner (take k (T.key (entry_leaf s.now))) left.now right.now) }
+// The inner node over leaves that share k bits, of which one is given.
+fn fork_digest(one: &Leaf, k: usize, children: &Children) -> [u8; 32]
+    requires { k ≤ 256 }
+    ensures { result ≡ T.digest (S.inner (take k (T.key (entry_leaf one.now))) children.now.left children.now.right) }
 {
-    inner(k as u16, &prefix_of(label_of(s, 0), k), left, right)
+    inner(
+        k as u16,
+        &prefix_of(label_of(one), k),
+        &children.left,
+        &children.right,
+    )
 }
 
-// Lays two digests over a slot.
-fn put_both(slots: &mut [u8], at: usize, left: &[u8; 32], right: &[u8; 32])
-    requires { at + 64 ≤ length slots.old }
-    ensures { slots.new ≡ pasted slots.old at (left.now ++ right.now) }
+// "more give an inner node whose prefix is their longest common prefix": leaves in order, which share `from` bits. Each part shares more
+// bits than the whole did: at most 256 calls stand within one another.
+fn below(leaves: &[Leaf], from: usize, slots: &mut [Children]) -> [u8; 32]
+    requires { Part from (as_nodes leaves.now) × (length slots.old + 1 ≡ length leaves.now) }
+    ensures { BelowLaid (as_nodes leaves.now) result slots.new }
 {
-    put(slots, at, left);
-    put(slots, at + 32, right);
-}
-
-// "more give an inner node whose prefix is their longest common prefix": n leaves in order, which share `from` bits. Each part shares
-// more bits than the whole did: at most 256 calls stand within one another.
-fn below(s: &[u8], n: usize, from: usize, slots: &mut [u8]) -> [u8; 32]
-    requires { Part n from s.now × (length slots.old ≡ (n - 1) * 64) }
-    ensures { BelowLaid (leaves_in n s.now) result slots.new }
-{
-    if n == 1 {
-        return leaf_digest(s);
+    if leaves.len() == 1 {
+        return leaf_digest(&leaves[0]);
     }
-    let fork = fork_of(s, n);
-    let k = fork.length;
-    let m = fork.left;
-    let middle = m * 68;
-    let slot = (m - 1) * 64;
-    let behind = m * 64;
-    let left = below(&s[..middle], m, k + 1, &mut slots[..slot]);
-    let right = below(&s[middle..], n - m, k + 1, &mut slots[behind..]);
-    put_both(slots, slot, &left, &right);
-    fork_digest(s, k, &left, &right)
+    let Fork { length, left } = fork_of(leaves);
+    let (low, high) = leaves.split_at(left);
+    let (low_slots, high_slots) = slots.split_at_mut(left);
+    let children = Children {
+        left: below(low, length + 1, &mut low_slots[..left - 1]),
+        right: below(high, length + 1, high_slots),
+    };
+    low_slots[left - 1] = children;
+    fork_digest(&leaves[0], length, &children)
 }
 
 // A side of the root: "It alone may have "nothing" as a child."
-fn side(s: &[u8], n: usize, slots: &mut [u8]) -> [u8; 32]
-    requires { Sorted n s.now × Range 1 (leaves_in n s.now) × (length slots.old ≡ n * 64) }
-    ensures { SideLaid (leaves_in n s.now) result slots.old slots.new }
+fn side(leaves: &[Leaf], slots: &mut [Children]) -> [u8; 32]
+    requires { Sorted (as_nodes leaves.now) × Range 1 (as_nodes leaves.now) × (length slots.old ≡ length leaves.now) }
+    ensures { SideLaid (as_nodes leaves.now) result slots.old slots.new }
 {
-    if n == 0 {
+    if leaves.is_empty() {
         return nothing();
     }
-    let spare = (n - 1) * 64;
-    below(s, n, 1, &mut slots[..spare])
+    let spare = leaves.len() - 1;
+    below(leaves, 1, &mut slots[..spare])
 }
 
-// Stores the tree over n leaves: the two sides of the root, and their slots.
-pub fn store(s: &[u8], n: usize, slots: &mut [u8]) -> Sides
-    requires { Sorted n s.now × (length slots.old ≡ n * 64) }
-    ensures { Laid n s.now slots.old slots.new result }
+// Stores the tree over leaves: the two sides of the root, and their slots.
+pub fn store(leaves: &[Leaf], slots: &mut [Children]) -> Sides
+    requires { Sorted (as_nodes leaves.now) × (length slots.old ≡ length leaves.now) }
+    ensures { Laid (as_nodes leaves.now) slots.old slots.new result }
 {
-    let m = split(s, n, 0);
-    let middle = m * 68;
-    let behind = m * 64;
-    let left = side(&s[..middle], m, &mut slots[..behind]);
-    let right = side(&s[middle..], n - m, &mut slots[behind..]);
-    Sides {
-        split: m,
-        left: left,
-        right: right,
-    }
-}
-
-// "The root has prefix length 0 and is always an inner node."
-pub fn root(sides: Sides) -> [u8; 32]
-    ensures { result ≡ T.digest (S.inner [] sides.left sides.right) }
-{
-    let left = sides.left;
-    let right = sides.right;
-    inner(0, &[0u8; 32], &left, &right)
+    let split = split(leaves, 0);
+    let (low, high) = leaves.split_at(split);
+    let (low_slots, high_slots) = slots.split_at_mut(split);
+    let children = Children {
+        left: side(low, low_slots),
+        right: side(high, high_slots),
+    };
+    Sides { split, children }
 }

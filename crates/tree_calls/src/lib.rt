@@ -2,36 +2,32 @@
 // answers a whole request, and one arm of `answer`.
 #![tactic(auto)]
 
-ghost use Rattle.wire.specs.Rooms.{Spacious};
-
-use paper::TreeAnswer;
-use reply::{print_bad, print_bytes, print_refused, print_text};
+use reply::{print_bytes, print_refused, print_text};
 use std::io::{Read, Write};
-use wire::{Request, read_at};
+use wire::{Request, Space, TreeCall, Unreadable};
 
 // 8: the root over entries. Their bound is 8,192, and there is room for one more.
 fn answer_tree_root<O: Write>(output: &mut O, entries: &[u8]) {
     let mut root = [0u8; 32];
     match level::tree_root(entries, &mut root) {
-        TreeAnswer::Written(_) => {
+        Ok(_) => {
             print_bytes(output, &root);
             print_text(output, b"\n");
         }
-        TreeAnswer::Refused(n) => print_refused(output, n),
+        Err(refusal) => print_refused(output, refusal.number()),
     }
 }
 
-fn call_tree_root<I: Read, O: Write>(input: &mut I, output: &mut O, r: Request, space: &mut [u8])
-    requires { Spacious space.old }
-{
-    let f = read_at(input, r, space, 0, 557124);
-    let n = f.length;
-    let rest = f.rest;
-    if wire::whole(rest) {
-        answer_tree_root(output, &space[0..n]);
-    } else {
-        print_bad(input, output, rest);
-    }
+fn call_tree_root<I: Read, O: Write>(
+    input: &mut I,
+    output: &mut O,
+    request: &mut Request,
+    space: &mut Space,
+) -> Result<(), Unreadable> {
+    let n = request.read_at(input, space, 0, 557_124)?;
+    request.end()?;
+    answer_tree_root(output, &space[..n]);
+    Ok(())
 }
 
 // Room for a path. None is longer: 256 steps of 34 bytes, a count, a kind, and an inner node's 98 bytes.
@@ -43,46 +39,40 @@ fn blank_path() -> [u8; 8805] {
 fn answer_tree_path<O: Write>(output: &mut O, entries: &[u8], label: &[u8], absent: bool) {
     let mut path = blank_path();
     match level::tree_path(entries, label, absent, &mut path) {
-        TreeAnswer::Written(n) => {
+        Ok(n) => {
             print_bytes(output, &path[..n]);
             print_text(output, b"\n");
         }
-        TreeAnswer::Refused(n) => print_refused(output, n),
+        Err(refusal) => print_refused(output, refusal.number()),
     }
 }
 
 // The label, of up to 256 bytes, lies behind the entries.
-fn call_tree_path<I: Read, O: Write>(input: &mut I, output: &mut O, r: Request, space: &mut [u8])
-    requires { Spacious space.old }
-{
-    let behind = 557124;
-    let f = read_at(input, r, space, 0, behind);
-    let g = read_at(input, f.rest, space, behind, 256);
-    let absent = wire::read_number16(input, g.rest);
-    let m = f.length;
-    let n = behind + g.length;
-    let rest = absent.rest;
-    if wire::whole(rest) {
-        let all = &space[..];
-        answer_tree_path(output, &all[0..m], &all[behind..n], absent.value != 0);
-    } else {
-        print_bad(input, output, rest);
-    }
+fn call_tree_path<I: Read, O: Write>(
+    input: &mut I,
+    output: &mut O,
+    request: &mut Request,
+    space: &mut Space,
+) -> Result<(), Unreadable> {
+    let behind = 557_124;
+    let m = request.read_at(input, space, 0, behind)?;
+    let n = request.read_at(input, space, behind, 256)?;
+    let absent = u16::from_be_bytes(request.read_array(input)?) != 0;
+    request.end()?;
+    let fields = &space[..];
+    answer_tree_path(output, &fields[..m], &fields[behind..behind + n], absent);
+    Ok(())
 }
 
-// Answers call 8 or 9.
 pub fn answer<I: Read, O: Write>(
     input: &mut I,
     output: &mut O,
-    call: u8,
-    r: Request,
-    space: &mut [u8],
-)
-    requires { Spacious space.old }
-    ensures { Spacious space.new }
-{
+    call: TreeCall,
+    request: &mut Request,
+    space: &mut Space,
+) -> Result<(), Unreadable> {
     match call {
-        8 => call_tree_root(input, output, r, space),
-        _ => call_tree_path(input, output, r, space),
+        TreeCall::Root => call_tree_root(input, output, request, space),
+        TreeCall::Path => call_tree_path(input, output, request, space),
     }
 }

@@ -2,7 +2,7 @@
 use mathlib.Core.Path.{◌≡◌, refl, sym, ap, ap₂, ◌∙◌}
 use mathlib.Core.Bool.{true, false}
 use mathlib.Core.List.{List, [], ◌∷◌, ◌++◌}
-use Prim.Native.Nat.{ℕ, zero, suc, ◌+◌, ◌*◌, ◌≤◌}
+use Prim.Native.Nat.{ℕ, ◌+◌, ◌*◌, ◌≤◌}
 use native.Mathlib.Omega.{arith}
 use lib.ListN.{length, take, drop, length-append}
 use lib.Seq.{length-take-le, take-add, drop-drop}
@@ -19,7 +19,9 @@ use Rattle.paper.proofs.Lists.{all_take, all_drop}
 use Rattle.paper.proofs.Bytes.{be-length, be-number, pack-length, pack-bits_of}
 use Rattle.paper.proofs.Fits.{step_fits, path-fits}
 use Rattle.ranges.proofs.Slices.{length_part}
-use Rattle.tree_path.specs.Measured.{end_size, node_bytes, end_bytes, way_bytes}
+use Rattle.tree_path.specs.declared.EndKind.{EndKind}
+use Rattle.tree_path.specs.declared.EndKind.TheVariants as K
+use Rattle.tree_path.specs.Measured.{kind_of, kind_number, end_size, node_bytes, end_bytes, way_bytes}
 
 -- ---- the parts
 
@@ -100,26 +102,27 @@ pub node-long : (p : Bits) (d : Bytes) → length (node_bytes p d) ≡ 34 + leng
 node-long p d =
     omega (arith, length-append (be 2 (length p) ++ pack wide p) d, length-append (be 2 (length p)) (pack wide p), be-length 2 (length p), pack-length wide p)
 
-end-size : (m : ℕ) (e : End) → (end_field m).Fits e → length (end_bytes e) ≡ 1 + end_size (end_kind e)
+end-size : (m : ℕ) (e : End) → (end_field m).Fits e → length (end_bytes e) ≡ 1 + end_size (kind_of e)
 unfolding led within end_of view seq such block
 end-size m (this c e) f = ap length (this-bytes c e) ∙ omega (arith, length-append c (be 4 e), be-length 4 e, f.1.0.0.0)
 end-size m (other l c e) f = ap length (other-bytes l c e) ∙ omega (arith, length-append (pack wide l) (c ++ be 4 e), length-append c (be 4 e), be-length 4 e, pack-length wide l, f.1.0.1.0.0)
 end-size m (off p l r) f = ap length (off-bytes p l r) ∙ omega (arith, node-long p (l ++ r), length-append l r, f.1.0.1.0.0, f.1.0.1.1.0)
 end-size m none f = ap length none-bytes
 
-pub no_size : (k : ℕ) → 3 ≤ k → 0 ≡ end_size k
-no_size zero h = absurd (omega arith)
-no_size (suc zero) h = absurd (omega arith)
-no_size (suc (suc zero)) h = absurd (omega arith)
-no_size (suc (suc (suc k))) h = refl
+-- the number of a kind is the number of the end
+kind-told : (e : End) → kind_number (kind_of e) ≡ end_kind e
+kind-told (this c e) = refl
+kind-told (other m c e) = refl
+kind-told (off p l r) = refl
+kind-told none = refl
 
-pub size-most : (k : ℕ) → end_size k ≤ 98
-size-most zero = omega arith
-size-most (suc zero) = omega arith
-size-most (suc (suc zero)) = omega arith
-size-most (suc (suc (suc k))) = omega arith
+pub size-most : (k : EndKind) → end_size k ≤ 98
+size-most K.This = omega arith
+size-most K.Other = omega arith
+size-most K.Off = omega arith
+size-most K.Nothing = omega arith
 
-pub path-size : (L : Bits) (t : Tree) → path_field.Fits (way L t) → length (path_field.bytes (way L t)) ≡ 3 + length (way_steps L t) * 34 + end_size (end_kind (way_end L t))
+pub path-size : (L : Bits) (t : Tree) → path_field.Fits (way L t) → length (path_field.bytes (way L t)) ≡ 3 + length (way_steps L t) * 34 + end_size (kind_of (way_end L t))
 unfolding way_bytes
 path-size L t f =
     let g = path-fits (way L t) f in

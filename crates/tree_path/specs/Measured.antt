@@ -1,25 +1,40 @@
 -- A label's way as it is measured, and the bytes of its path.
-use Rattle.std.specs.Prelude.{◌++◌, ℕ, zero, suc, length}
+use Rattle.std.specs.Prelude.{◌++◌, ℕ, length}
 use Rattle.paper.specs.Numbers.{wide}
 use Rattle.paper.specs.Bytes.{Bytes, be}
 use Rattle.paper.specs.Bits.{Bits, pack}
 use Rattle.paper.specs.Tree.{Tree}
-use Rattle.paper.specs.Path.{End, way_steps, way_end}
+use Rattle.paper.specs.Path.{End, this, other, off, none, way_steps, way_end}
 use Rattle.paper.specs.Layout.{times_bytes}
-use Rattle.paper.specs.Fields.{step_field, end_kind, end_field}
+use Rattle.paper.specs.Fields.{step_field, end_field}
+use Rattle.tree_path.specs.declared.EndKind.{EndKind}
+use Rattle.tree_path.specs.declared.EndKind.TheVariants as K
 use Rattle.tree_path.specs.declared.Way.{Way}
+
+-- the kind of an end, and the number of a kind
+abbrev pub kind_of : End → EndKind
+kind_of (this c e) = K.This
+kind_of (other m c e) = K.Other
+kind_of (off p l r) = K.Off
+kind_of none = K.Nothing
+
+abbrev pub kind_number : EndKind → ℕ
+kind_number K.This = 0
+kind_number K.Other = 1
+kind_number K.Off = 2
+kind_number K.Nothing = 3
 
 -- the number of steps, and the kind of the end
 abbrev pub way_of : Bits → Tree → Way
-way_of L t = record { steps = length (way_steps L t); kind = end_kind (way_end L t) }
+way_of L t = record { steps = length (way_steps L t); kind = kind_of (way_end L t) }
 
 -- how many bytes an end has behind its kind: "0, this leaf: commitment, epoch. 1, another leaf: label, commitment, epoch. 2, another
 -- inner node: its 98 bytes after 0x01 .. 3, nothing"
-abbrev pub end_size : ℕ → ℕ
-end_size zero = 36
-end_size (suc zero) = 68
-end_size (suc (suc zero)) = 98
-end_size (suc (suc (suc k))) = 0
+abbrev pub end_size : EndKind → ℕ
+end_size K.This = 36
+end_size K.Other = 68
+end_size K.Off = 98
+end_size K.Nothing = 0
 
 -- an end; how many steps stand before it changes nothing in its bytes
 unfoldable pub end_bytes : End → Bytes

@@ -1,56 +1,42 @@
 -- Paths taken in order, each for what is asked of it.
-use Rattle.std.specs.Prelude.{List, [], ◌∷◌, ℕ, ◌+◌, ◌^◌, ◌≤◌, ◌<◌, length, drop}
+use Rattle.std.specs.Prelude.{List, [], ◌∷◌, ℕ, ◌+◌, ◌-◌, ◌*◌, ◌^◌, ◌≤◌, ◌<◌, length, drop, Result, Ok, Err}
 use Rattle.paper.specs.Numbers.{FORM, name_most}
-use Rattle.paper.specs.Bytes.{Bytes}
 use Rattle.paper.specs.Labelling.{plain}
 use Rattle.paper.specs.Layout.{Read, got, bad}
 use Rattle.paper.specs.Fields.{path_field}
 use Rattle.paper.specs.Path.{Path}
 use Rattle.paper.specs.Verdict.{verdict}
-use Rattle.paper.specs.Shows.{kind_of, number_of, path_tests}
-use Rattle.path_form.specs.Parsed.{path_at}
-use Rattle.plan.specs.Asked.{place_of}
-use Rattle.plan.specs.declared.Place.{Place}
+use Rattle.paper.specs.Shows.{path_tests}
+use Rattle.paper.specs.declared.Refusal.{Refusal}
 use Rattle.shown.specs.Form.{head_in}
 use Rattle.shown.specs.Terms.{asked_of, terms_of}
 use Rattle.shown.specs.declared.Asked.{Asked}
-use Rattle.walks.specs.declared.Walk.{Walk}
-use Rattle.walks.specs.declared.Walk.TheVariants.{On, Refused}
+use Rattle.walks.specs.declared.Reader.{Reader}
 
--- the label of a place
-abbrev pub label_of : Bytes → Place → Bytes
-label_of name x = plain.label (kind_of (place_of x)) (number_of (place_of x)) name
+-- the path that was read is taken: its two tests, what it counts, "m+2 for each path (its label, m nodes, its end)", and the place
+-- behind it
+abbrev pub stepped_of : Asked → Reader → Read Path → Result Reader Refusal
+stepped_of a r bad = Err FORM
+stepped_of a r (got x rest) =
+    verdict Err
+    (Ok (record { proof = r.proof; name = r.name; at = length r.proof.now - length rest; digests = r.digests + length x.steps + 2 }))
+    (path_tests plain r.name.now (head_in r.proof.now) (terms_of a) (asked_of a ∷ []) (x ∷ []))
 
--- the place behind the path at a place
-abbrev pub path_on : Bytes → ℕ → ℕ
-path_on s at = (path_at s at).next
+-- the path that stands next
+unfoldable pub stepped : Asked → Reader → Result Reader Refusal
+stepped a r = stepped_of a r (path_field.read (drop r.at r.proof.now))
 
-module _ (s name : Bytes) where
-  -- the path that was read is taken: its two tests, and what it counts, "m+2 for each path (its label, m nodes, its end)"
-  abbrev pub stepped_of : Asked → ℕ → Read Path → Walk
-  stepped_of a digests bad = Refused FORM
-  stepped_of a digests (got x r) =
-      verdict Refused (On (digests + length x.steps + 2)) (path_tests plain name (head_in s) (terms_of a) (asked_of a ∷ []) (x ∷ []))
+abbrev pub walked : Asked → Result Reader Refusal → Result Reader Refusal
+walked a (Err e) = Err e
+walked a (Ok r) = stepped a r
 
-  -- the path that stands at a place
-  unfoldable pub stepped : Asked → ℕ → ℕ → Walk
-  stepped a at digests = stepped_of a digests (path_field.read (drop at s))
+-- all that is asked, in order, of the paths that stand next
+unfoldable pub walks : List Asked → Result Reader Refusal → Result Reader Refusal
+walks [] r = r
+walks (a ∷ l) r = walks l (walked a r)
 
-  abbrev pub walked : Asked → ℕ → Walk → Walk
-  walked a at (Refused n) = Refused n
-  walked a at (On digests) = stepped a at digests
-
-  -- all that is asked, in order, of the paths from a place on
-  unfoldable pub walks : List Asked → ℕ → Walk → Walk
-  walks [] at w = w
-  walks (a ∷ l) at w = walks l (path_on s at) (walked a at w)
-
-  -- there is a front, the name is short, and the count has room for one path more
-  pub record StepReady (digests : ℕ) : Type 0 where
-    pub front : 106 ≤ length s
-    pub short : length name ≤ name_most
-    pub room : digests + 258 < 2 ^ 32
-
-  abbrev pub Ready : Walk → Type 0
-  Ready (Refused n) = Unit {0}
-  Ready (On digests) = StepReady digests
+-- a walk can go on: there is a front, the name is short, and the count has room for k paths more
+pub record Ahead (k : ℕ) (r : Reader) : Type 0 where
+  pub front : 106 ≤ length r.proof.now
+  pub short : length r.name.now ≤ name_most
+  pub room : r.digests + 258 * k < 2 ^ 32

@@ -1,3 +1,2 @@
 -- Laws of what is read of a request.
 pub mod Joined
-pub mod Taken

@@ -1,3 +1,3 @@
 -- What the contracts cite.
 pub mod Took
-pub mod Rooms
+pub mod Calls

@@ -3,43 +3,26 @@
 // standard input no contract can name.
 #![tactic(auto)]
 
+mod call;
 mod read;
 
-pub use read::{
-    next_request, read_at, read_field, read_number16, read_number32, skip_rest, spoilt, whole,
-};
+pub use call::{Call, HandsetCall, ProofCall, ServerCall, TreeCall};
+pub use read::next_request;
 
-// A request that is being read: whether it was readable so far, and how many of its bytes are left.
+// A request that is being read: how many of its bytes are left.
 #[derive(Clone, Copy)]
 pub struct Request {
-    pub good: bool,
     pub left: usize,
 }
 
-// What stands next in the input: its end, or a request with the number of its call.
-#[derive(Clone, Copy)]
-pub enum Next {
-    End,
-    Call(u8, Request),
-}
+// What can't be read: a request, or a field of one.
+#[derive(Clone, Copy, Debug, PartialEq, Eq)]
+pub struct Unreadable;
 
-// A field: how many bytes of it stand at the start of the lent buffer, and the rest of its request.
-#[derive(Clone, Copy)]
-pub struct Field {
-    pub length: usize,
-    pub rest: Request,
-}
+// The rooms that the driver lends to each call in turn: the space, in which the call's fields lie one behind the other, and a spare one. The longest
+// fields are those of an audit: two heads of up to 256 bytes, and a proof; none in layout is longer than 3,244,246 bytes.
+pub type Space = [u8; 3_277_312];
 
-// A field of two bytes that is a number, and the rest of its request.
-#[derive(Clone, Copy)]
-pub struct Number16 {
-    pub value: u16,
-    pub rest: Request,
-}
-
-// A field of four bytes that is a number, and the rest of its request.
-#[derive(Clone, Copy)]
-pub struct Number32 {
-    pub value: u32,
-    pub rest: Request,
-}
+// For what is written beside fields that lie in the space: a proof, or the records of a table. Of a table of 4,096 records, with the longest keys,
+// a history of 1,023 versions has some 1,046,000 bytes.
+pub type Spare = [u8; 1_200_000];

@@ -1,50 +1,57 @@
--- A number of m + n bytes is one of m bytes with one of n bytes behind it, whether it is read or written. Assumes nothing.
-use mathlib.Core.Path.{◌≡◌, sym, ap, ap₂, ◌∙◌, subst}
-use mathlib.Core.List.{[], ◌∷◌, ◌++◌}
-use Prim.Native.Nat.{ℕ, ◌+◌, ◌*◌, ◌/◌, ◌%◌, ◌^◌, ◌≤◌, ◌<◌}
-use native.Mathlib.Nat.{add_assoc, mul_assoc, add-mul, mod-lt, div-add-mod', div-lt_iff_lt-mul}
+-- Numbers of two and of four bytes, in the library's words and in document 01's, and of one. Assumes nothing.
+use mathlib.Core.Path.{◌≡◌, refl, ap, ◌∙◌}
+use mathlib.Core.List.{[], ◌∷◌}
+use Prim.Native.Nat.{ℕ, suc, ◌+◌, ◌/◌, ◌%◌, ◌^◌, ◌≤◌, ◌<◌}
+use native.Mathlib.Numerals.{add-one}
 use native.Mathlib.Omega.{arith}
-use lib.ListN.{length, get_or, take, drop, set, length-append, length-drop}
-use lib.Seq.{take-add, drop-drop, drop-cons, length-take-le}
-use lib.Pow.{pow-add}
+use lib.ListN.{length, get_or, take, drop, set}
+use lib.Seq.{drop-cons}
+use Rattle.std.specs.Int.{w16, w32, from_be_bytes, to_be_bytes}
 use Rattle.paper.specs.Bytes.{Bytes, be, number, pasted}
-use Rattle.paper.proofs.Lists.{all_append}
-use Rattle.paper.proofs.Bytes.{be-length, be-bytes, number-be, be-number, pow256-pos}
-use Rattle.paper.proofs.Pasted.{pasted-one, pasted-pasted}
+use Rattle.paper.proofs.Pasted.{pasted-one}
 
-number_append : (s t : Bytes) → number (s ++ t) ≡ number s * 256 ^ length t + number t
-unfolding number
-number_append [] t = omega arith
-number_append (b ∷ s) t =
-    rw (length-append s t, pow-add 256 (length s) (length t), number_append s t, add-mul (b * 256 ^ length s) (number s) (256 ^ length t))
-    (rw (mul_assoc b (256 ^ length s) (256 ^ length t)) (sym (add_assoc (b * (256 ^ length s * 256 ^ length t)) (number s * 256 ^ length t) (number t))))
+-- a byte of a part, and those behind it
+front : (s : Bytes) (at k next : ℕ) → at < length s → next ≡ at + 1 → take (suc k) (drop at s) ≡ get_or s at 0 ∷ take k (drop next s)
+front s at k next h e = rw (drop-cons s at 0 h, e, add-one at) refl
 
--- a byte is a number of one byte; m + n bytes are m bytes and n behind them
+-- a byte is a number of one byte
 pub number-one : (s : Bytes) (at : ℕ) → at < length s → number (take 1 (drop at s)) ≡ get_or s at 0
 unfolding number
 number-one s at h = rw (drop-cons s at 0 h) (omega arith)
 
-pub number-part : (s : Bytes) (at m n : ℕ) → at + m + n ≤ length s → number (take (m + n) (drop at s)) ≡ number (take m (drop at s)) * 256 ^ n + number (take n (drop (at + m) s))
-number-part s at m n h =
-    rw (take-add m n (drop at s), drop-drop m at s, number_append (take m (drop at s)) (take n (drop (at + m) s)), length-take-le n (drop (at + m) s) (omega (arith, length-drop (at + m) s)))
+pub number-two : (s : Bytes) (at : ℕ) → at + 2 ≤ length s → from_be_bytes w16 (get_or s at 0 ∷ get_or s (at + 1) 0 ∷ []) ≡ number (take 2 (drop at s))
+unfolding number
+number-two s at h =
+    let tail = front s (at + 1) 0 (at + 2) (omega arith) (omega arith) in
+    rw (front s at 1 (at + 1) (omega arith) refl, tail) (omega arith)
 
-be-append : (m n a b : ℕ) → a < 256 ^ m → b < 256 ^ n → be m a ++ be n b ≡ be (m + n) (a * 256 ^ n + b)
-be-append m n a b ha hb =
-    let s = be m a ++ be n b in
-    let e : length s ≡ m + n = length-append (be m a) (be n b) ∙ ap₂ (λ x y. x + y) (be-length m a) (be-length n b) in
-    let v : number s ≡ a * 256 ^ n + b = number_append (be m a) (be n b) ∙ rw (be-length n b, number-be m a ha, number-be n b hb) in
-    sym (be-number s (all_append (λ x. x < 256) (be m a) (be n b) (be-bytes m a ha) (be-bytes n b hb))) ∙ ap₂ be e v
+pub number-four : (s : Bytes) (at : ℕ) → at + 4 ≤ length s
+    → from_be_bytes w32 (get_or s at 0 ∷ get_or s (at + 1) 0 ∷ get_or s (at + 2) 0 ∷ get_or s (at + 3) 0 ∷ []) ≡ number (take 4 (drop at s))
+unfolding number
+number-four s at h =
+    let second = front s (at + 1) 2 (at + 2) (omega arith) (omega arith) in
+    let third = front s (at + 2) 1 (at + 3) (omega arith) (omega arith) in
+    let fourth = front s (at + 3) 0 (at + 4) (omega arith) (omega arith) in
+    rw (front s at 3 (at + 1) (omega arith) refl, second, third, fourth) (omega arith)
 
--- a byte that is stored, and the upper m and the lower n bytes of a number, one behind the other
+-- the bytes of a number
+pub bytes-two : (n : ℕ) → n < 2 ^ 16 → to_be_bytes w16 n ≡ be 2 n
+unfolding be
+bytes-two n h =
+    let a : n / 256 % 256 ≡ n / 256 = omega arith in
+    let b : n % 256 ≡ n % 256 / 1 = omega arith in
+    cc
+
+pub bytes-four : (n : ℕ) → n < 2 ^ 32 → to_be_bytes w32 n ≡ be 4 n
+unfolding be
+bytes-four n h =
+    let a : n / 16777216 % 256 ≡ n / 16777216 = omega arith in
+    let b : n / 65536 % 256 ≡ n % 16777216 / 65536 = omega arith in
+    let c : n / 256 % 256 ≡ n % 16777216 % 65536 / 256 = omega arith in
+    let d : n % 256 ≡ n % 16777216 % 65536 % 256 / 1 = omega arith in
+    cc
+
+-- a byte that is stored
 pub pasted-byte : (d : Bytes) (at b : ℕ) → at < length d → set d at b ≡ pasted d at (be 1 b)
 unfolding be
 pasted-byte d at b h = let e : b ≡ b / 1 = omega arith in pasted-one d at b h ∙ ap (λ x. pasted d at (x ∷ [])) e
-
-pub pasted-halves : (d : Bytes) (at m n x : ℕ) → at ≤ length d → x < 256 ^ (m + n) → pasted (pasted d at (be m (x / 256 ^ n))) (at + m) (be n (x % 256 ^ n)) ≡ pasted d at (be (m + n) x)
-pasted-halves d at m n x h k =
-    let a = x / 256 ^ n in
-    let b = x % 256 ^ n in
-    let ha : a < 256 ^ m = (div-lt_iff_lt-mul (pow256-pos n)).1 (subst (λ p. x < p) (pow-add 256 m n) k) in
-    ap (λ l. pasted (pasted d at (be m a)) (at + l) (be n b)) (sym (be-length m a))
-    ∙ pasted-pasted d at (be m a) (be n b) h
-    ∙ ap (pasted d at) (be-append m n a b ha (mod-lt x (pow256-pos n)) ∙ ap (be (m + n)) (div-add-mod' x (256 ^ n)))

@@ -20,7 +20,8 @@ use Rattle.paper.specs.Verdict.{Test}
 use Rattle.paper.specs.Shows.{Place, in_all, in_old, as_marker, kind_of, number_of, Asked, present, missing, Terms, Item, Proof, root_at, label_at, epoch_at, commitment_at, meets, path_tests, path_strings, proof_strings, proof_tests, input_tests}
 use Rattle.paper.specs.Lookup.{lookup_asked, lookup_field, lookup_terms, check_lookup}
 use Rattle.paper.specs.History.{history_asked, history_field, history_terms, history_read, check_history}
-use Rattle.paper.specs.Audit.{opened, fresh, Audit, audit_field, record_of, olds, news, before?, in_order, record_rule, of_all, of_old, audit_tests, audit_strings, check_audit}
+use Rattle.paper.specs.Audit.{opened, fresh, Audit, audit_field, record_of, olds, news, before?, in_order, record_rule, audit_tests, audit_strings, check_audit}
+use Rattle.paper.specs.declared.Which.TheVariants.{OfAll, OfOld}
 use Rattle.paper.specs.Answer.{Reply, reply, lookup_reply, history_reply, audit_reply}
 use Rattle.paper.specs.Arrow.{AuditStep, Agrees, Collision, hashed}
 use Rattle.paper.proofs.Bytes.{bytewise, eq-same}
@@ -114,8 +115,8 @@ broken-read = refl
 -- ---- the audit step: its nine tests
 
 step-rules : (eqb audit.after.epoch (suc audit.before.epoch) && same audit.after.previous before ≡ true)
-    × (in_order audit.all && every (record_rule of_all audit.before.epoch audit.after.epoch) audit.all ≡ true)
-    × (in_order audit.old && every (record_rule of_old audit.before.epoch audit.after.epoch) audit.old ≡ true)
+    × (in_order audit.all && every (record_rule OfAll audit.before.epoch audit.after.epoch) audit.all ≡ true)
+    × (in_order audit.old && every (record_rule OfOld audit.before.epoch audit.after.epoch) audit.old ≡ true)
 unfolding every same to_bits bits_of starts lcp before? in_order
 step-rules = (refl, refl, refl)
 
@@ -244,7 +245,7 @@ history-fails =
 
 pub history-to-the-end : history_reply (check_history plain after name broken) ≡ reply 4 []
 unfolding every is_name input_tests check_history
-history-to-the-end = ap history_reply (verdict-all _ _ (input_tests after name) (refl, tt) ∙ ap (history_read plain name after) broken-read ∙ verdict-first _ _ _ 4 history-fails)
+history-to-the-end = ap history_reply (verdict-all _ _ (input_tests after name) (refl, tt) ∙ ap (history_read plain name after) broken-read ∙ verdict-first _ _ _ 4 history-fails) ∙ ap (λ n. reply n []) history-fails.number
 
 -- ---- so the arrow's theorem speaks of them
 points : all_accepted plain before name lookup (step ∷ []) history ≡ true

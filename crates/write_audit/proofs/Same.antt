@@ -4,6 +4,7 @@ use mathlib.Core.Bool.{Bool, true, false, ◌&&◌}
 use mathlib.Core.List.{List, flat_map}
 use Prim.Native.Nat.{ℕ, zero, suc, ◌-◌, ◌≤◌}
 use native.Mathlib.Omega.{arith}
+use lib.ListN.{length}
 use Rattle.paper.specs.Lists.{All}
 use Rattle.paper.specs.Numbers.{CLASH, audit_most}
 use Rattle.paper.specs.Bytes.{Bytes}
@@ -11,12 +12,11 @@ use Rattle.paper.specs.Strings.{Node}
 use Rattle.paper.specs.Labelling.{plain}
 use Rattle.paper.specs.Tree.{digest, top, root_digest}
 use Rattle.paper.specs.Audit.{olds, audit_field}
-use Rattle.paper.specs.Level.{leaves_in}
 use Rattle.paper.specs.Table.{Record, by_epoch, all_leaves, old_leaves, previous_head, all_at, old_at, distinct}
 use Rattle.paper.specs.Write.{Written, below_root, audit_proof}
 use Rattle.paper.specs.Standing.{RecordFits}
 use Rattle.paper.specs.declared.State.{State}
-use Rattle.paper.specs.declared.WriteAnswer.TheVariants as W
+use Rattle.paper.specs.Answer.{returned}
 use Rattle.paper.proofs.Lists.{all_in, in-all, and_both}
 use Rattle.paper.proofs.Labelling.{plain-sized}
 use Rattle.paper.proofs.Leaves.{record-fits, all-at-sized, old-at-sized}
@@ -24,11 +24,16 @@ use Rattle.paper.proofs.Before.{Dated, clear-before, root-before, all-dated, old
 use Rattle.paper.proofs.Honest.{LeafSized}
 use Rattle.record.specs.Places.{records_in}
 use Rattle.forest.specs.Grown.{Clear}
-use Rattle.forest.specs.declared.Grown.{Grown}
+use Rattle.paper.specs.declared.Which.{Which}
+use Rattle.paper.specs.declared.Which.TheVariants.{OfAll, OfOld}
+use Rattle.gather.specs.Gathered.{leaves_by}
+use Rattle.gather.proofs.Leaves.{by-few}
+use Rattle.leaf_row.specs.Row.{as_nodes}
+use Rattle.tree.specs.declared.StoredTree.{StoredTree}
 use Rattle.tested.specs.Tested.{weighed, Sound}
 use Rattle.tested.proofs.First.{heads-reach}
 use Rattle.tested.proofs.Weighed.{clash}
-use Rattle.lay_audit.specs.Audited.{root_before, bytes_with, Step, Kept}
+use Rattle.lay_audit.specs.Audited.{root_before, bytes_with, Step, Listable}
 use Rattle.write_audit.specs.Rest.{clear_at, rest_at}
 
 -- ---- the epoch before
@@ -56,7 +61,7 @@ module _ (records heads : Bytes) (state : State) (out : Bytes) (t : ℕ) (s : So
   rs = records_in state.count records
 
   abbrev clashes : Written
-  clashes = record { answer = W.Refused CLASH state; out = out }
+  clashes = record { answer = returned state CLASH; out = out }
 
   pub step : Step heads t
   step = record { later = later; reach = heads-reach records heads state t s }
@@ -69,26 +74,26 @@ module _ (records heads : Bytes) (state : State) (out : Bytes) (t : ℕ) (s : So
   pub all-refused : distinct (all_at plain t rs) ≡ false → rest_at records heads state out t ≡ clashes
   all-refused e = clash state out (clear_at t rs) (audit_field.bytes (audit_proof plain heads t rs)) (closed (distinct (all_at plain (t - 1) rs)) (distinct (old_at plain (t - 1) rs)) _ (ap (λ x. x && distinct (old_at plain t rs)) e))
 
-  module _ (a : Grown) (all all_slots : Bytes) (ca : Clear (all_at plain t rs) all all_slots a) where
+  -- as many leaves as a list may have records
+  few : (which : Which) → length (leaves_by which t rs) ≤ audit_most
+  few which = omega (arith, by-few which t records state.count, s.few)
+
+  module _ (a : StoredTree) (ca : Clear (all_at plain t rs) a) where
     pub old-refused : distinct (old_at plain t rs) ≡ false → rest_at records heads state out t ≡ clashes
     old-refused e = clash state out (clear_at t rs) (audit_field.bytes (audit_proof plain heads t rs)) (closed (distinct (all_at plain (t - 1) rs)) (distinct (old_at plain (t - 1) rs)) _ (ap₂ (λ x y. x && y) ca.alone e))
 
-    module _ (o : Grown) (old old_slots : Bytes) (co : Clear (old_at plain t rs) old old_slots o) where
-      pub kept : a.leaves ≤ audit_most → o.leaves ≤ audit_most → Kept all all_slots a old old_slots o
-      kept ha ho = record {
-        first = ca.standing.sorted;
-        second = co.standing.sorted;
-        first_stored = ca.standing.stored;
-        second_stored = co.standing.stored;
-        first_few = ha;
-        second_few = ho;
-      }
+    pub all-listed : Listable a
+    all-listed = record { tree = ca.standing.kept; few = omega (arith, ca.standing.number, few OfAll) }
+
+    module _ (o : StoredTree) (co : Clear (old_at plain t rs) o) where
+      pub old-listed : Listable o
+      old-listed = record { tree = co.standing.kept; few = omega (arith, co.standing.number, few OfOld) }
 
       clear : clear_at t rs ≡ true
       clear = and_both (clear-then (all_leaves plain) (all-dated plain) rs t later ca.alone) (and_both (clear-then (old_leaves plain) (old-dated plain) rs t later co.alone) (and_both ca.alone co.alone))
 
       -- the same trees, and those before them
-      pub rest-is : rest_at records heads state out t ≡ weighed state out true (bytes_with heads t (leaves_in a.leaves all) (leaves_in o.leaves old))
+      pub rest-is : rest_at records heads state out t ≡ weighed state out true (bytes_with heads t (as_nodes a.leaves.now) (as_nodes o.leaves.now))
       unfolding bytes_with
       rest-is =
           let x = ca.standing.tree in

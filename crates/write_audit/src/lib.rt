@@ -8,8 +8,8 @@ ghost use Rattle.std.specs.Prelude.{◌≡◌};
 ghost use Rattle.paper.specs.Labelling.{plain};
 ghost use Rattle.paper.specs.Write as W;
 
-use paper::{State, WriteAnswer};
-use tested::refusal;
+use paper::{Returned, State, WriteAnswer};
+use tested::first_tests;
 use trees::write_shaped;
 
 // The step from the epoch before into this one: "1 INPUT" also where "an audit writer's new epoch is 0".
@@ -22,9 +22,9 @@ pub fn write_audit(
 ) -> WriteAnswer
     ensures { record { answer = result; out = out.new } ≡ W.write_audit plain records.now heads.now state out.old epoch }
 {
-    let number = refusal(records, heads, state, epoch, 1 <= epoch);
-    if number != 0 {
-        return WriteAnswer::Refused { number, state };
+    if let Err(refusal) = first_tests(records, heads, state, epoch, 1 <= epoch) {
+        // the state goes back beside the refusal, which `?` alone would not do
+        return Err(Returned { refusal, state });
     }
     write_shaped(records, heads, state, epoch, out)
 }

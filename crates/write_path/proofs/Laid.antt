@@ -1,6 +1,6 @@
 -- A way laid behind its step, a path behind its count, and nothing. Assumes nothing.
 use mathlib.Core.Path.{◌≡◌, sym, ap, ◌∙◌}
-use mathlib.Core.List.{[], ◌∷◌, ◌++◌}
+use mathlib.Core.List.{List, [], ◌∷◌, ◌++◌}
 use Prim.Native.Nat.{ℕ, ◌+◌, ◌≤◌, ◌<◌}
 use native.Mathlib.Omega.{arith}
 use lib.ListN.{length, set, length-append}
@@ -9,7 +9,7 @@ use Rattle.paper.specs.Bits.{Bits}
 use Rattle.paper.specs.Tree.{Tree, build}
 use Rattle.paper.specs.Path.{way_steps, way}
 use Rattle.paper.specs.Fields.{step_field, path_field}
-use Rattle.paper.specs.Level.{leaves_in}
+use Rattle.paper.specs.Strings.{Node}
 use Rattle.paper.proofs.Bytes.{be-length}
 use Rattle.paper.proofs.Pasted.{pasted-one}
 use Rattle.tree_path.specs.Measured.{way_bytes}
@@ -45,8 +45,8 @@ path-wrote L t o v w at r steps h q f g =
 
 -- ---- nothing
 
-pub none-wrote : (L : Bits) (n : ℕ) (s o : Bytes) (at : ℕ) → n ≡ 0 → at + length (way_bytes L (build 256 (leaves_in n s))) ≤ length o → (at < length o) × Wrote o at (way_bytes L (build 256 (leaves_in n s))) (set o at 3) (at + 1)
-none-wrote L n s o at e h =
-    let q : way_bytes L (build 256 (leaves_in n s)) ≡ 3 ∷ [] = ap (way_bytes L) (bare n s e) ∙ W.none-bytes L ∙ none-bytes in
+pub none-wrote : (L : Bits) (S : List Node) (o : Bytes) (at : ℕ) → length S ≡ 0 → at + length (way_bytes L (build 256 S)) ≤ length o → (at < length o) × Wrote o at (way_bytes L (build 256 S)) (set o at 3) (at + 1)
+none-wrote L S o at e h =
+    let q : way_bytes L (build 256 S) ≡ 3 ∷ [] = ap (way_bytes L) (bare S e) ∙ W.none-bytes L ∙ none-bytes in
     let l : at < length o = omega (arith, ap length q) in
     (l, record { laid = pasted-one o at 3 l ∙ ap (pasted o at) (sym q); behind = omega (arith, ap length q) })

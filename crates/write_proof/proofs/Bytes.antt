@@ -1,13 +1,12 @@
 -- A proof's bytes as they are written, and what its number, its keys and its plan are. Assumes nothing.
 use mathlib.Core.Path.{◌≡◌, refl, sym, ap, ap₂, ◌∙◌, subst}
-use mathlib.Core.Bool.{Bool, true, false}
-use mathlib.Core.List.{List, [], ◌++◌, append_assoc}
+use mathlib.Core.List.{List, ◌++◌, append_assoc}
 use Prim.Native.Nat.{ℕ, zero, suc, ◌+◌, ◌*◌, ◌^◌, ◌≤◌, ◌<◌}
 use native.Mathlib.Omega.{arith}
 use lib.ListN.{length, length-append, length-replicate}
 use Rattle.paper.specs.Lists.{every}
 use Rattle.paper.specs.Bytes.{Bytes, pasted}
-use Rattle.paper.specs.Strings.{Node, node_string, inner}
+use Rattle.paper.specs.Strings.{Node, node_string}
 use Rattle.paper.specs.Labelling.{plain}
 use Rattle.paper.specs.Tree.{top, root, root_digest}
 use Rattle.paper.specs.Shows.{Item}
@@ -18,23 +17,26 @@ use Rattle.paper.proofs.Fits.{digest-wide}
 use Rattle.paper.proofs.Asked.{by_most}
 use Rattle.ranges.proofs.Slices.{length_part}
 use Rattle.record.specs.Places.{records_in, Stands}
+use Rattle.std.specs.Prelude.{Option, None, Some}
 use Rattle.table.specs.Index.{last_where}
-use Rattle.tree.specs.declared.Sides.{Sides}
 use Rattle.table.proofs.Last.{last-most}
 use Rattle.plan.proofs.Markers.{shifted}
 use Rattle.plan.proofs.Rows.{asked-length}
-use Rattle.plan.specs.Asked.{markers_of}
+use Rattle.plan.specs.Asked.{markers_of, asked_by, asked_of}
+use Rattle.plan.specs.declared.Kind.{Kind}
+use Rattle.plan.specs.declared.Kind.TheVariants.{Lookup, History}
+use Rattle.plan.specs.declared.Plan.{Plan}
 use Rattle.own.specs.Own.{own_by}
 use Rattle.own.proofs.Versions.{version-none, version-last}
 use Rattle.path_fields.specs.Written.{Wrote}
 use Rattle.path_fields.proofs.Writing.{wrote-next}
-use Rattle.paths.specs.Paths.{asked_by, asked_of, free_for, path_bytes}
-use Rattle.paths.specs.declared.Plan.{Plan}
+use Rattle.paths.specs.Paths.{free_for, path_bytes}
 use Rattle.front.specs.Front.{front_bytes, item_bytes, items_from}
 use Rattle.front.proofs.Front.{front_length, previous-some}
 use Rattle.front.proofs.Items.{items-all, items-none, items-last}
 use Rattle.tested.specs.Tested.{weighed}
-use Rattle.write_proof.specs.Judged.{kind_by, items_by, version_of, from_by, found, over_sides, head_over, before_with, bytes_with, plan_by, judged}
+use Rattle.plan.specs.Kinds.{kind_number}
+use Rattle.write_proof.specs.Judged.{items_by, version_of, from_by, found, head_over, before_with, bytes_with, plan_by, judged}
 use Rattle.write_proof.specs.declared.found.Found.{Found}
 
 -- ---- sizes
@@ -45,10 +47,10 @@ previous-wide heads (suc t) h = ap length (previous-some heads t) ∙ length_par
 
 module _ (heads all old : Bytes) (items : List Item) (p : Plan) (reach : p.epoch * 32 ≤ length heads) (first : length all ≡ 32) (second : length old ≡ 32) where
   abbrev front : Bytes
-  front = front_bytes (kind_by p.history) (head_over heads all old p.epoch) p.number
+  front = front_bytes (kind_number p.kind) (head_over heads all old p.epoch) p.number
 
   front-size : length front ≡ 108
-  front-size = front_length (kind_by p.history) (head_over heads all old p.epoch) p.number (previous-wide heads p.epoch reach) first second
+  front-size = front_length (kind_number p.kind) (head_over heads all old p.epoch) p.number (previous-wide heads p.epoch reach) first second
 
   pub before-size : length (before_with heads all old items p) ≡ 108 + length (item_bytes items)
   unfolding before_with
@@ -60,15 +62,12 @@ module _ (heads all old : Bytes) (items : List Item) (p : Plan) (reach : p.epoch
   before-laid o f u next ef wu = wrote-next o f u front (item_bytes items) (front ++ item_bytes items) 0 108 next (omega arith) ef (omega (arith, front-size)) wu refl
 
 -- the front as the head's parts were found
-pub head-found : (heads all old : Bytes) (t k n : ℕ) (b : Bool) (x y z o : Bytes) → k ≡ kind_by b → x ≡ previous_head heads t → y ≡ all → z ≡ old
-    → pasted o 0 (front_bytes k (record { epoch = t; previous = x; all = y; old = z }) n) ≡ pasted o 0 (front_bytes (kind_by b) (head_over heads all old t) n)
+pub head-found : (heads all old : Bytes) (t k n : ℕ) (b : Kind) (x y z o : Bytes) → k ≡ kind_number b → x ≡ previous_head heads t → y ≡ all → z ≡ old
+    → pasted o 0 (front_bytes k (record { epoch = t; previous = x; all = y; old = z }) n) ≡ pasted o 0 (front_bytes (kind_number b) (head_over heads all old t) n)
 head-found heads all old t k n b x y z o ek ex ey ez = λ i. pasted o 0 (front_bytes (ek i) (record { epoch = t; previous = ex i; all = ey i; old = ez i }) n)
 
 -- a root has 32 bytes
-pub sides-wide : (s : Sides) → length (over_sides s) ≡ 32
-sides-wide s = (digest-wide (node_string (inner [] s.left s.right))).size
-
-root-wide : (S : List Node) → length (root_digest S) ≡ 32
+pub root-wide : (S : List Node) → length (root_digest S) ≡ 32
 root-wide S = (digest-wide (node_string (top (root S)))).size
 
 module _ (heads name : Bytes) (A O : List Node) (items : List Item) (p : Plan) (reach : p.epoch * 32 ≤ length heads) where
@@ -94,51 +93,51 @@ module _ (heads name : Bytes) (A O : List Node) (items : List Item) (p : Plan) (
 
 -- ---- what is asked
 
-few-asked : (b : Bool) (n t : ℕ) → n < 2 ^ 16 → length (asked_by b n t) ≤ 200000
-few-asked true n t h =
+few-asked : (b : Kind) (n t : ℕ) → n < 2 ^ 16 → length (asked_by b n t) ≤ 200000
+few-asked History n t h =
     let s = shifted n (markers_of n) h refl in
     omega (arith, asked-length n t (omega arith), s.small, s.few, by_most t)
-few-asked false zero t h = omega arith
-few-asked false (suc n) t h = omega arith
+few-asked Lookup zero t h = omega arith
+few-asked Lookup (suc n) t h = omega arith
 
 pub asked-few : (p : Plan) → p.number < 2 ^ 16 → length (asked_of p) ≤ 200000
-asked-few p h = few-asked p.history p.number p.epoch h
+asked-few p h = few-asked p.kind p.number p.epoch h
 
 -- ---- what is found of the name
 
 module _ (s name : Bytes) (t count : ℕ) where
-  number_is : (at : ℕ) → at ≡ last_where (own_by s name t) count → version_of s at ≡ last_version (versions_by plain name t (records_in count s))
-  number_is zero e = sym (version-none s name t count (sym e))
-  number_is (suc k) e = sym (version-last s name t count k (sym e))
+  number_is : (at : Option ℕ) → at ≡ last_where (own_by s name t) count → version_of s at ≡ last_version (versions_by plain name t (records_in count s))
+  number_is None e = sym (version-none s name t count (sym e))
+  number_is (Some k) e = sym (version-last s name t count k (sym e))
 
-  items-are : (b : Bool) (at : ℕ) → at ≡ last_where (own_by s name t) count → items_from s name t (from_by b at) count ≡ items_by b (versions_by plain name t (records_in count s))
-  items-are true at e = items-all s name t count
-  items-are false zero e = items-none s name t 0 count (sym e)
-  items-are false (suc k) e = items-last s name t k count (sym e)
+  items-are : (b : Kind) (at : Option ℕ) → at ≡ last_where (own_by s name t) count → items_from s name t (from_by b at) count ≡ items_by b (versions_by plain name t (records_in count s))
+  items-are History at e = items-all s name t count
+  items-are Lookup None e = items-none s name t 0 count (sym e)
+  items-are Lookup (Some k) e = items-last s name t k count (sym e)
 
-  from-most : (b : Bool) (at : ℕ) → at ≡ last_where (own_by s name t) count → from_by b at ≤ count
-  from-most true at e = omega arith
-  from-most false zero e = omega arith
-  from-most false (suc k) e = omega (arith, last-most (own_by s name t) count)
+  from-most : (b : Kind) (at : Option ℕ) → at ≡ last_where (own_by s name t) count → from_by b at ≤ count
+  from-most History at e = omega arith
+  from-most Lookup None e = omega arith
+  from-most Lookup (Some k) e = omega (arith, last-most (own_by s name t) count k (sym e))
 
-  pub from-within : (b : Bool) → from_by b (last_where (own_by s name t) count) ≤ count
+  pub from-within : (b : Kind) → from_by b (last_where (own_by s name t) count) ≤ count
   from-within b = from-most b (last_where (own_by s name t) count) refl
 
   -- the last record stands
-  pub last-stands : ((i : ℕ) → i < count → Stands s i) → (at : ℕ) → at ≡ last_where (own_by s name t) count → (k : ℕ) → at ≡ suc k → Stands s k
-  last-stands h at e k f = h k (omega (arith, e, f, last-most (own_by s name t) count))
+  pub last-stands : ((i : ℕ) → i < count → Stands s i) → (at : Option ℕ) → at ≡ last_where (own_by s name t) count → (k : ℕ) → at ≡ Some k → Stands s k
+  last-stands h at e k f = h k (omega (arith, last-most (own_by s name t) count k (sym e ∙ f)))
 
-module _ (history : Bool) (records heads : Bytes) (state : State) (out name : Bytes) (t : ℕ) (A O : List Node) (r : Found) (e : r ≡ found history records name t state.count) where
+module _ (kind : Kind) (records heads : Bytes) (state : State) (out name : Bytes) (t : ℕ) (A O : List Node) (r : Found) (e : r ≡ found kind records name t state.count) where
   abbrev pub plan : Plan
-  plan = record { history = history; number = r.number; epoch = t }
+  plan = record { kind = kind; number = r.number; epoch = t }
 
   abbrev pub proof : Bytes
   proof = bytes_with heads name A O (items_from records name t r.from state.count) plan
 
   -- what is weighed is what is judged
-  pub judged-is : weighed state out (every (free_for name A O) (asked_of plan)) proof ≡ judged history records heads state out name t A O
+  pub judged-is : weighed state out (every (free_for name A O) (asked_of plan)) proof ≡ judged kind records heads state out name t A O
   judged-is =
       let at = last_where (own_by records name t) state.count in
-      let planned : plan ≡ plan_by history records heads state out name t = ap (λ m. record { history = history; number = m; epoch = t }) (ap (λ x. x.number) e ∙ number_is records name t state.count at refl) in
-      let keys = ap (λ x. items_from records name t x.from state.count) e ∙ items-are records name t state.count history at refl in
+      let planned : plan ≡ plan_by kind records heads state out name t = ap (λ m. record { kind = kind; number = m; epoch = t }) (ap (λ x. x.number) e ∙ number_is records name t state.count at refl) in
+      let keys = ap (λ x. items_from records name t x.from state.count) e ∙ items-are records name t state.count kind at refl in
       λ i. weighed state out (every (free_for name A O) (asked_of (planned i))) (bytes_with heads name A O (keys i) (planned i))

@@ -5,6 +5,7 @@ ghost use Rattle.record.specs.Places.{Stands};
 ghost use Rattle.write_proof.specs.Judged.{version_of, from_by, found};
 
 use own::latest;
+use plan::Kind;
 use record::version_at;
 
 // From which record on keys are written, and the last version.
@@ -14,37 +15,34 @@ pub struct Found {
     pub number: u16,
 }
 
-// The version of the name's last record, of which 1 + its number is given, or 0.
-fn number_of(records: &[u8], at: usize) -> u16
-    requires { (k : ℕ) → at ≡ suc k → Stands records.now k }
-    ensures { result ≡ version_of records.now at }
+// The version of the name's last record, or 0.
+fn number_of(records: &[u8], last: Option<usize>) -> u16
+    requires { (k : ℕ) → last ≡ Some k → Stands records.now k }
+    ensures { result ≡ version_of records.now last }
 {
-    if at == 0 {
-        return 0;
+    match last {
+        Some(k) => version_at(records, k),
+        None => 0,
     }
-    version_at(records, at - 1)
 }
 
 // A history has the keys of all records, a lookup that of the last one.
-fn from_of(at: usize, history: bool) -> usize
-    ensures { result ≡ from_by history at }
+fn from_of(last: Option<usize>, kind: Kind) -> usize
+    ensures { result ≡ from_by kind last }
 {
-    if history {
-        return 0;
+    match kind {
+        Kind::Lookup => last.unwrap_or(0),
+        Kind::History => 0,
     }
-    if at == 0 {
-        return 0;
-    }
-    at - 1
 }
 
-pub(crate) fn find(records: &[u8], count: usize, name: &[u8], epoch: u32, history: bool) -> Found
+pub(crate) fn find(records: &[u8], count: usize, name: &[u8], epoch: u32, kind: Kind) -> Found
     requires { (i : ℕ) → i < count → Stands records.now i }
-    ensures { result ≡ found history records.now name.now epoch count }
+    ensures { result ≡ found kind records.now name.now epoch count }
 {
-    let at = latest(records, count, name, epoch);
+    let last = latest(records, count, name, epoch);
     Found {
-        from: from_of(at, history),
-        number: number_of(records, at),
+        from: from_of(last, kind),
+        number: number_of(records, last),
     }
 }

@@ -13,6 +13,7 @@ ghost use Rattle.paper.specs.Labelling.{plain};
 ghost use Rattle.paper.specs.Write as W;
 
 use paper::{State, WriteAnswer};
+use plan::Kind;
 use tests::write_proof;
 
 // "A lookup at epoch t answers the name's last version with epoch at most t, or version 0"
@@ -26,7 +27,7 @@ pub fn write_lookup(
 ) -> WriteAnswer
     ensures { record { answer = result; out = out.new } ≡ W.write_lookup plain records.now heads.now state out.old name.now epoch }
 {
-    write_proof(records, heads, state, name, epoch, false, out)
+    write_proof(records, heads, state, name, epoch, Kind::Lookup, out)
 }
 
 // "a history answers all its versions by then."
@@ -40,5 +41,5 @@ pub fn write_history(
 ) -> WriteAnswer
     ensures { record { answer = result; out = out.new } ≡ W.write_history plain records.now heads.now state out.old name.now epoch }
 {
-    write_proof(records, heads, state, name, epoch, true, out)
+    write_proof(records, heads, state, name, epoch, Kind::History, out)
 }

@@ -4,8 +4,9 @@ ghost use Rattle.write_proof.specs.Rest.{written_by};
 
 use crate::trees::write_shaped;
 use names::is_name;
-use paper::{State, WriteAnswer};
-use tested::refusal;
+use paper::{Returned, State, WriteAnswer};
+use plan::Kind;
+use tested::first_tests;
 
 pub(crate) fn write_proof(
     records: &[u8],
@@ -13,14 +14,14 @@ pub(crate) fn write_proof(
     state: State,
     name: &[u8],
     epoch: u32,
-    history: bool,
+    kind: Kind,
     out: &mut [u8],
 ) -> WriteAnswer
-    ensures { record { answer = result; out = out.new } ≡ written_by history records.now heads.now state out.old name.now epoch }
+    ensures { record { answer = result; out = out.new } ≡ written_by kind records.now heads.now state out.old name.now epoch }
 {
-    let number = refusal(records, heads, state, epoch, is_name(name));
-    if number != 0 {
-        return WriteAnswer::Refused { number, state };
+    if let Err(refusal) = first_tests(records, heads, state, epoch, is_name(name)) {
+        // the state goes back beside the refusal, which `?` alone would not do
+        return Err(Returned { refusal, state });
     }
-    write_shaped(records, heads, state, name, epoch, history, out)
+    write_shaped(records, heads, state, name, epoch, kind, out)
 }

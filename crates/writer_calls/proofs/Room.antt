@@ -16,8 +16,8 @@ use Rattle.paper.specs.Layout.{Read, got, bad}
 use Rattle.paper.specs.Table.{Record, records_within, heads_within, counted, head_lies, in_shape}
 use Rattle.paper.specs.Write.{Written, unwritten, write_read, write_with}
 use Rattle.paper.specs.declared.State.{State}
-use Rattle.paper.specs.declared.WriteAnswer.{WriteAnswer}
-use Rattle.paper.specs.declared.WriteAnswer.TheVariants as W
+use Rattle.paper.specs.Answer.{WriteAnswer, written}
+use Rattle.paper.specs.declared.Refusal.{Refusal}
 use Rattle.paper.proofs.Verdicts.{verdict-cases}
 use Rattle.writer_calls.specs.Inside.{Inside}
 
@@ -25,7 +25,7 @@ module _ (records heads : Bytes) (state : State) (out : Bytes) where
   abbrev Fits : Written → Type 0
   Fits w = Inside w.answer out
 
-  abbrev refuse : ℕ → Written
+  abbrev refuse : Refusal → Written
   refuse n = unwritten plain records heads state out n
 
   read-within : (t : ℕ) (clear : List Record → Bool) (proof : List Record → Bytes) (m : Read (List Record)) → Fits (write_read plain records heads state out t clear proof m)
@@ -33,7 +33,7 @@ module _ (records heads : Bytes) (state : State) (out : Bytes) where
   read-within t clear proof (got rs r) = ⊎_elim
       (λ (h, q). subst Fits (sym q) (leb-true (length (proof rs)) (length out) h.1.1.1.0))
       (λ (n, f, q). subst Fits (sym q) (omega arith))
-      (verdict-cases refuse (record { answer = W.Written (length (proof rs)) state; out = pasted out 0 (proof rs) })
+      (verdict-cases refuse (record { answer = written (length (proof rs)) state; out = pasted out 0 (proof rs) })
       (test TABLE (head_lies heads state.epoch && in_shape plain state.epoch [] rs)
       ∷ test EPOCH (leb t state.epoch)
       ∷ test CLASH (clear rs)

@@ -1,30 +1,29 @@
 -- `arrow::arrow_now`: both checks at one head.
-use mathlib.Core.Path.{◌≡◌, refl, ap, ◌∙◌}
+use mathlib.Core.Path.{◌≡◌, sym, ap, ◌∙◌}
 use mathlib.Core.List.{[]}
+use Rattle.std.specs.Prelude.{is_ok}
 use Rattle.paper.specs.Labelling.{plain}
 use Rattle.paper.specs.Lookup.{check_lookup}
-use Rattle.paper.specs.Answer.{lookup_number, history_number}
 use Rattle.paper.proofs.Labelling.{plain-tied}
 use Rattle.ranges.proofs.Slices.{bytewise}
-use Rattle.arrow.proofs.Pointing.{pointed, unlooked, reached}
+use Rattle.arrow.proofs.Pointing.{pointed, now-is}
 use Rattle.arrow.proofs.arrow_now.Goals as goal
-use Rattle.arrow.proofs.arrow_now.Goals.{After-lookup_number}
+use Rattle.arrow.proofs.arrow_now.Goals.{After-is_ok}
 
--- the lookup's number is the definition's
-looked : (c : After-lookup_number) → let a = c.args in c.lookup_number.result ≡ lookup_number (check_lookup plain a.head.now a.name.now a.lookup.now)
-looked c = c.lookup_number.ensures ∙ ap lookup_number c.check_lookup.ensures
+-- whether the lookup is accepted
+looked : (c : After-is_ok) → let a = c.args in c.is_ok.result ≡ is_ok (check_lookup plain a.head.now a.name.now a.lookup.now)
+looked c = c.is_ok.ensures.value ∙ ap is_ok c.check_lookup.ensures
 
-pub returns-then-lookup_number-ne0 : goal.returns-then-lookup_number-ne0
-returns-then-lookup_number-ne0 c =
+pub returns-then-is_ok : goal.returns-then-is_ok
+returns-then-is_ok c =
     let a = c.args in
-    pointed plain plain-tied a.head.now a.name.now a.lookup.now [] a.history.now _
-    (bytewise a.lookup.now c.type_inv.lookup) tt (bytewise a.history.now c.type_inv.history)
-    (unlooked plain plain-tied a.head.now a.name.now a.lookup.now [] a.history.now c.lookup_number.result (looked (goal.at.returns-then-lookup_number-ne0 c).After-lookup_number) c.if-lookup_number-ne0.true)
+    let l = sym (looked (goal.at.returns-then-is_ok c).After-is_ok) ∙ c.if-is_ok.true in
+    pointed plain plain-tied a.head.now a.name.now a.lookup.now [] a.history.now _ (bytewise a.lookup.now c.type_inv.lookup) tt (bytewise a.history.now c.type_inv.history)
+    (c.is_ok-then-is_ok.ensures.value ∙ ap is_ok c.check_history.ensures ∙ sym (now-is plain a.head.now a.name.now a.lookup.now a.history.now ∙ rw l))
 
-pub returns : goal.returns
-returns c =
+pub returns-else-is_ok : goal.returns-else-is_ok
+returns-else-is_ok c =
     let a = c.args in
-    pointed plain plain-tied a.head.now a.name.now a.lookup.now [] a.history.now _
-    (bytewise a.lookup.now c.type_inv.lookup) tt (bytewise a.history.now c.type_inv.history)
-    (reached plain plain-tied a.head.now a.name.now a.lookup.now [] a.history.now c.lookup_number.result c.history_number.result (looked (goal.at.returns c).After-lookup_number) c.if-lookup_number-ne0.false refl
-    (c.history_number.ensures ∙ ap history_number c.check_history.ensures))
+    let l = sym (looked (goal.at.returns-else-is_ok c).After-is_ok) ∙ c.if-is_ok.false in
+    pointed plain plain-tied a.head.now a.name.now a.lookup.now [] a.history.now _ (bytewise a.lookup.now c.type_inv.lookup) tt (bytewise a.history.now c.type_inv.history)
+    (c.if-is_ok.false ∙ sym (now-is plain a.head.now a.name.now a.lookup.now a.history.now ∙ rw l))

@@ -1,5 +1,7 @@
 -- `audit::check_audit`: sizes, layout, heads, lists, in the definition's order.
 use native.Mathlib.Omega.{arith}
+use Rattle.std.specs.Prelude.{Err}
+use Rattle.std.proofs.lemmas.Result.{err_from_is_err_and}
 use mathlib.Core.Path.{◌≡◌, sym, ap, ◌∙◌}
 use mathlib.Core.Bool.{true}
 use mathlib.Core.List.{[]}
@@ -52,18 +54,19 @@ check_heads-requires c = (laid c).long
 pub check_lists-requires : goal.check_lists-requires
 check_lists-requires c =
     let a = c.args in
-    let two = (heads-passed a.old_head.now a.new_head.now a.proof.now (reads (goal.at.check_lists-requires c).Else-not-in_layout) _ (sym c.check_heads.ensures ∙ c.in-Passed.is)).0 in
+    let two = (heads-passed a.old_head.now a.new_head.now a.proof.now (reads (goal.at.check_lists-requires c).Else-not-in_layout) _ (sym c.check_heads.ensures ∙ c.in_ok-digests.was)).0 in
     (laid (goal.at.check_lists-requires c).Else-not-in_layout, omega (arith, two))
 
-pub returns-in-Refused : goal.returns-in-Refused
-returns-in-Refused c =
+pub returns-in_err-digests : goal.returns-in_err-digests
+returns-in_err-digests c =
     let a = c.args in
-    sym (input-fits a.old_head.now a.new_head.now a.proof.now c.if-old_head-ne32.false c.if-new_head-ne32.false
-    ∙ heads-refused a.old_head.now a.new_head.now a.proof.now (reads (goal.at.returns-in-Refused c).Else-not-in_layout) _ (sym c.check_heads.ensures ∙ c.in-Refused.is))
+    let p = err_from_is_err_and c.from_residual.result c.from_residual.ensures.1 in
+    p.1 ∙ ap Err p.2 ∙ sym (input-fits a.old_head.now a.new_head.now a.proof.now c.if-old_head-ne32.false c.if-new_head-ne32.false
+    ∙ heads-refused a.old_head.now a.new_head.now a.proof.now (reads (goal.at.returns-in_err-digests c).Else-not-in_layout) _ (sym c.check_heads.ensures ∙ c.in_err-digests.was))
 
-pub returns-in-Passed : goal.returns-in-Passed
-returns-in-Passed c =
+pub returns : goal.returns
+returns c =
     let a = c.args in
     c.check_lists.ensures
     ∙ sym (input-fits a.old_head.now a.new_head.now a.proof.now c.if-old_head-ne32.false c.if-new_head-ne32.false
-    ∙ (heads-passed a.old_head.now a.new_head.now a.proof.now (reads (goal.at.returns-in-Passed c).Else-not-in_layout) _ (sym c.check_heads.ensures ∙ c.in-Passed.is)).1)
+    ∙ (heads-passed a.old_head.now a.new_head.now a.proof.now (reads (goal.at.returns c).Else-not-in_layout) _ (sym c.check_heads.ensures ∙ c.in_ok-digests.was)).1)

@@ -1,13 +1,15 @@
 -- `audit::check_lists`: the list of *all*, and behind it the list of *old*.
 use native.Mathlib.Omega.{arith}
+use Rattle.std.specs.Prelude.{Err}
+use Rattle.std.proofs.lemmas.Result.{err_from_is_err_and}
 use mathlib.Core.Path.{◌≡◌, sym, ap, ◌∙◌}
-use Rattle.paper.specs.Audit.{of_all}
+use Rattle.paper.specs.declared.Which.TheVariants.{OfAll}
 use Rattle.audit_form.specs.Places.{count_at, behind_at, Listed}
 use Rattle.audit.specs.Tests.{checked, tests_at, digests_at}
 use Rattle.audit.proofs.Parts.{list-passed, all_checked, all-refused, all-passed}
 use Prim.Native.Nat.{◌+◌, ◌*◌, ◌≤◌}
 use Rattle.audit.proofs.check_lists.Goals as goal
-use Rattle.audit.proofs.check_lists.Goals.{After-check_list, After-read32-n, In-Passed}
+use Rattle.audit.proofs.check_lists.Goals.{After-check_list, After-read32-n, In_ok-more}
 
 -- the records stand where the list of *all* has them
 counted : (c : After-read32-n) → c.read32-n.result ≡ count_at c.args.proof.now 206
@@ -20,11 +22,11 @@ listed c = rw (counted c) c.requires.0.all
 told : (c : After-check_list) → c.check_list.result ≡ all_checked c.args.proof.now
 told c =
     let s = c.args.proof.now in
-    c.check_list.ensures ∙ ap (λ n. checked (digests_at s 210 n) (tests_at s of_all 210 n 42)) (counted (goal.at.After-check_list c).After-read32-n)
+    c.check_list.ensures ∙ ap (λ n. checked (digests_at s 210 n) (tests_at s OfAll 210 n 42)) (counted (goal.at.After-check_list c).After-read32-n)
 
-few : (c : In-Passed) → c.args.digests + c.in-Passed.more ≤ 65544
+few : (c : In_ok-more) → c.args.digests + c.in_ok-more.more ≤ 65544
 few c =
-    let most = list-passed c.args.proof.now of_all 210 c.read32-n.result 42 _ (listed (goal.at.In-Passed c).After-read32-n) (sym c.check_list.ensures ∙ c.in-Passed.is) in
+    let most = list-passed c.args.proof.now OfAll 210 c.read32-n.result 42 _ (listed (goal.at.In_ok-more c).After-read32-n) (sym c.check_list.ensures ∙ c.in_ok-more.was) in
     omega (arith, most.1, c.requires.1)
 
 pub check_list-requires : goal.check_list-requires
@@ -38,10 +40,11 @@ unfolding behind_at
 check_old-requires c =
     (c.requires.0, ap (λ n. 210 + n * 99) (counted (goal.at.check_old-requires c).After-read32-n), few c)
 
-pub returns-in-Refused : goal.returns-in-Refused
-returns-in-Refused c =
-    sym (all-refused c.args.proof.now c.args.digests _ (sym (told (goal.at.returns-in-Refused c).After-check_list) ∙ c.in-Refused.is))
+pub returns-in_err-more : goal.returns-in_err-more
+returns-in_err-more c =
+    let p = err_from_is_err_and c.from_residual.result c.from_residual.ensures.1 in
+    p.1 ∙ ap Err p.2 ∙ sym (all-refused c.args.proof.now c.args.digests _ (sym (told (goal.at.returns-in_err-more c).After-check_list) ∙ c.in_err-more.was))
 
-pub returns-in-Passed : goal.returns-in-Passed
-returns-in-Passed c =
-    c.check_old.ensures ∙ sym (all-passed c.args.proof.now c.args.digests _ (sym (told (goal.at.returns-in-Passed c).After-check_list) ∙ c.in-Passed.is))
+pub returns : goal.returns
+returns c =
+    c.check_old.ensures ∙ sym (all-passed c.args.proof.now c.args.digests _ (sym (told (goal.at.returns c).After-check_list) ∙ c.in_ok-more.was))

@@ -2,7 +2,7 @@
 use native.Mathlib.Omega.{arith}
 use mathlib.Core.Path.{sym, ap₂, ◌∙◌}
 use mathlib.Core.Logic.{inl, inr}
-use Prim.Native.Nat.{◌+◌, ◌≤◌}
+use Prim.Native.Nat.{◌≤◌}
 use lib.ListN.{take, drop}
 use borrow.Author.Tests.{ltb-true, ltb-false}
 use Rattle.paper.specs.Numbers.{wide}
@@ -17,17 +17,16 @@ use Rattle.audit_form.proofs.prefix_form.Goals.{then-length-lt1-via-else-length-
 pub returns-then-length-lt1 : goal.returns-then-length-lt1
 returns-then-length-lt1 c =
     let e = c.read16-length.ensures in
-    sym (prefix-out c.args.s.now c.args.at (elim c.then-length-lt1.branch [ then-length-lt1-via-then-length-lt1 w ↦ inl (omega arith) | then-length-lt1-via-else-length-lt1+then-length-gt255 w ↦ inr (omega (arith, ltb-true)) ]))
+    sym (prefix-out c.args.row.now 0 (elim c.then-length-lt1.branch [ then-length-lt1-via-then-length-lt1 w ↦ inl (omega arith) | then-length-lt1-via-else-length-lt1+then-length-gt255 w ↦ inr (omega (arith, ltb-true)) ]))
 
 pub returns : goal.returns
 unfolding key_at
 returns c =
-    let s = c.args.s.now in
-    let at = c.args.at in
-    let w = bytewise s c.type_inv.s in
+    let s = c.args.row.now in
+    let w = bytewise s (λ i. record { fits = c.fits-row i }) in
     let n = c.read16-length.ensures in
-    let least : 1 ≤ number (take 2 (drop (at + 1) s)) = omega arith in
-    let most : number (take 2 (drop (at + 1) s)) ≤ 255 = omega (arith, ltb-false) in
+    let least : 1 ≤ number (take 2 (drop 1 s)) = omega arith in
+    let most : number (take 2 (drop 1 s)) ≤ 255 = omega (arith, ltb-false) in
     c.same.ensures
     ∙ ap₂ same (c.prefix_of.ensures ∙ ap₂ (λ k x. pack wide (take k (bits_of x))) n c.label_at-prefix.ensures.bytes) c.label_at-prefix.ensures.bytes
-    ∙ sym (prefix-in s at w c.requires least most)
+    ∙ sym (prefix-in s 0 w (omega (arith, c.told-row)) least most)

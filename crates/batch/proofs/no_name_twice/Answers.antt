@@ -1,28 +1,19 @@
--- `batch::no_name_twice`: no name of the updates passed is there again, so the rest decides.
+-- `batch::no_name_twice`: no update has its name again.
 use borrow.Author.Rules.{rules}
+use borrow.Author.Tests.{tests}
 use native.Mathlib.Omega.{arith}
-use mathlib.Core.Path.{refl, sym, ◌∙◌}
-use Rattle.batch.proofs.Places.{once-end, once-pass, once-hit}
+use mathlib.Core.Path.{refl, ap, ◌∙◌}
+use mathlib.Core.Bool.{not}
+use Prim.Native.Nat.{suc}
+use Rattle.std.proofs.lemmas.Iterator.{YieldsList-from_range}
+use Rattle.std.proofs.lemmas.Iterator.Search.{any_from_yields_List}
+use Rattle.batch.specs.Places.{bears_from}
+use Rattle.batch.proofs.Counted.{once-any}
 use Rattle.batch.proofs.no_name_twice.Goals as goal
-
-pub loop-i-init : goal.loop-i-init
-loop-i-init c = (search rules, refl)
-
-pub again-requires : goal.again-requires
-again-requires c = (c.loop-i-test.true, c.requires)
-
-pub returns-then-again : goal.returns-then-again
-returns-then-again c =
-    let at = c.loop-i in
-    sym (at.invariant.1 ∙ once-hit c.args.n c.args.s.now at.i c.loop-i-test.true (sym c.again.ensures ∙ c.if-again.true))
-
-pub loop-i-preserved : goal.loop-i-preserved
-loop-i-preserved c =
-    let at = c.loop-i in
-    let h = c.loop-i-test.true in
-    (omega (arith, h), at.invariant.1 ∙ once-pass c.args.n c.args.s.now at.i h (sym c.again.ensures ∙ c.if-again.false))
 
 pub returns : goal.returns
 returns c =
-    let at = c.loop-i in
-    sym (at.invariant.1 ∙ once-end c.args.n c.args.s.now at.i (omega (arith, c.loop-i-test.false)))
+    let s = c.args.s.now in
+    let n = c.args.n in
+    ap not (any_from_yields_List (λ i. bears_from s n i (suc i)) _ _ c.any.result c.any.ensures.ran (YieldsList-from_range 0 n n refl (omega arith)) (λ x b q k. search (rules, tests)))
+    ∙ once-any n s n 0 (omega arith)

@@ -1,13 +1,8 @@
--- `bounds::batch_within`: the tests are the definition's.
-use mathlib.Core.Path.{sym}
+-- `bounds::batch_within`: the test is the definition's, and no number is below 0.
+use Rattle.std.proofs.Common.{◌/◌, length, le-leb, ◌∙◌, arith}
 use Rattle.paper.specs.Publish.{batch_within}
-use Rattle.bounds.proofs.Multiple.{no-multiple, multiple}
 use Rattle.bounds.proofs.batch_within.Goals as goal
-
-pub returns-then-batch-ne0 : goal.returns-then-batch-ne0
-unfolding batch_within
-returns-then-batch-ne0 c = sym (no-multiple _ _ c.if-batch-ne0.true)
 
 pub returns : goal.returns
 unfolding batch_within
-returns c = sym (multiple _ _ c.if-batch-ne0.false)
+returns c = c.within.ensures ∙ rw (le-leb 0 (length c.args.batch.now / 162) (omega arith))

@@ -1,13 +1,8 @@
--- `bounds::entries_within`: the tests are the definition's.
-use mathlib.Core.Path.{sym}
+-- `bounds::entries_within`: the test is the definition's, and no number is below 0.
+use Rattle.std.proofs.Common.{◌/◌, length, le-leb, ◌∙◌, arith}
 use Rattle.paper.specs.Level.{entries_within}
-use Rattle.bounds.proofs.Multiple.{no-multiple, multiple}
 use Rattle.bounds.proofs.entries_within.Goals as goal
-
-pub returns-then-entries-ne0 : goal.returns-then-entries-ne0
-unfolding entries_within
-returns-then-entries-ne0 c = sym (no-multiple _ _ c.if-entries-ne0.true)
 
 pub returns : goal.returns
 unfolding entries_within
-returns c = sym (multiple _ _ c.if-entries-ne0.false)
+returns c = c.within.ensures ∙ rw (le-leb 0 (length c.args.entries.now / 68) (omega arith))

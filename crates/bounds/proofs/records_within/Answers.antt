@@ -1,13 +1,8 @@
--- `bounds::records_within`: the tests are the definition's.
-use mathlib.Core.Path.{sym}
+-- `bounds::records_within`: the test is the definition's, and no number is below 0.
+use Rattle.std.proofs.Common.{◌/◌, length, le-leb, ◌∙◌, arith}
 use Rattle.paper.specs.Table.{records_within}
-use Rattle.bounds.proofs.Multiple.{no-multiple, multiple}
 use Rattle.bounds.proofs.records_within.Goals as goal
-
-pub returns-then-records-ne0 : goal.returns-then-records-ne0
-unfolding records_within
-returns-then-records-ne0 c = sym (no-multiple _ _ c.if-records-ne0.true)
 
 pub returns : goal.returns
 unfolding records_within
-returns c = sym (multiple _ _ c.if-records-ne0.false)
+returns c = c.within.ensures ∙ rw (le-leb 0 (length c.args.records.now / 168) (omega arith))

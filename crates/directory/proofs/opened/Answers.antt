@@ -10,14 +10,14 @@ abbrev made : After-begun → Started
 made k = record { answer = k.begun.result; heads = k.begun.new.heads }
 
 pub further-requires : goal.further-requires
-further-requires c = c.begun.ensures.left _ c.in-Started.is
+further-requires c = c.begun.ensures.left _ c.in-Ok.is
 
-pub returns-in-Refused : goal.returns-in-Refused
-returns-in-Refused c =
+pub returns-in-Err : goal.returns-in-Err
+returns-in-Err c =
     let a = c.args in
-    opened-not plain a.records.now a.heads.now a.batch.now (made (goal.at.returns-in-Refused c).After-begun) c.begun.ensures _ c.in-Refused.is
+    opened-not plain a.records.now a.heads.now a.batch.now (made (goal.at.returns-in-Err c).After-begun) c.begun.ensures _ c.in-Err.is
 
-pub returns-in-Started : goal.returns-in-Started
-returns-in-Started c =
+pub returns-in-Ok : goal.returns-in-Ok
+returns-in-Ok c =
     let a = c.args in
-    opened-left plain a.records.now a.heads.now a.batch.now (made (goal.at.returns-in-Started c).After-begun) c.begun.ensures _ c.in-Started.is _ c.further.ensures
+    opened-left plain a.records.now a.heads.now a.batch.now (made (goal.at.returns-in-Ok c).After-begun) c.begun.ensures _ c.in-Ok.is _ c.further.ensures

@@ -1,111 +1,82 @@
 -- `forest::grow`: the leaves gathered are those of the records, in order they give the same tree.
-use borrow.Author.Rules.{rules}
-use borrow.Author.Tests.{not-true, not-false}
 use native.Mathlib.Omega.{arith}
-use mathlib.Core.Path.{◌≡◌, sym, ◌∙◌}
-use mathlib.Core.Bool.{true, false≢true}
+use mathlib.Core.Path.{◌≡◌, sym, ap, ◌∙◌, subst}
 use mathlib.Core.List.{List, ◌++◌}
 use Prim.Native.Nat.{◌*◌, ◌≤◌}
-use lib.ListN.{length, take, drop}
+use lib.ListN.{length, take}
 use lib.Seq.{length-take-le}
-use Rattle.paper.specs.Bytes.{Bytes}
 use Rattle.paper.specs.Strings.{Node}
-use Rattle.paper.specs.Level.{leaves_in}
 use Rattle.record.specs.Places.{records_in}
 use Rattle.gather.specs.Gathered.{leaves_by}
 use Rattle.gather.proofs.Leaves.{by-few}
+use Rattle.bit_order.proofs.Leaves.{leaves_none, leaves-cut}
 use Rattle.arrange.specs.Arranged.{Arranged}
+use Rattle.leaf_row.specs.Row.{as_nodes}
+use Rattle.leaf_row.proofs.Rows.{sized-among, row-count, of-count}
 use Rattle.tree.specs.Stored.{Sorted}
-use Rattle.forest.proofs.Standing.{front-within, same-leaves, ordered, standing}
 use Rattle.forest.proofs.grow.Goals as goal
-use Rattle.forest.proofs.grow.Goals.{After-arrange, After-gather-n, Else-not-arrange}
+use Rattle.forest.proofs.grow.Goals.{After-gather-n, After-leaves_of-leaves, After-arrange, Else-not-arrange}
 
--- two leaves of each record at most
+-- the leaves of the tree, two of each record at most
+abbrev leaves : After-gather-n → List Node
+leaves c = let a = c.args in leaves_by a.which a.epoch (records_in a.count a.records.now)
+
 few : (c : After-gather-n) → c.gather-n.result ≤ 2 * c.args.count
-few c =
-    let a = c.args in
-    omega (arith, c.gather-n.ensures.number, by-few a.old a.epoch a.records.now a.count)
+few c = let a = c.args in omega (arith, c.gather-n.ensures.number, by-few a.which a.epoch a.records.now a.count)
 
 room : (c : After-gather-n) → c.gather-n.result * 68 ≤ length c.gather-n.new.row
 room c = omega (arith, few c, c.gather-n.auto.row, c.requires.leaves)
 
-reach : (c : After-gather-n) → c.gather-n.result * 64 ≤ length c.args.slots.now
-reach c = omega (arith, few c, c.requires.digests)
+front : (c : After-gather-n) → length (take (c.gather-n.result * 68) c.gather-n.new.row) ≡ c.gather-n.result * 68
+front c = length-take-le _ _ (room c)
 
 pub overflow_mul-size : goal.overflow_mul-size
-overflow_mul-size c = let h = room (goal.at.overflow_mul-size c).After-gather-n in search rules
+overflow_mul-size c = let h = room (goal.at.overflow_mul-size c).After-gather-n in omega (arith, h)
 
-pub slice_bounds-arrange-end : goal.slice_bounds-arrange-end
-slice_bounds-arrange-end c = room (goal.at.slice_bounds-arrange-end c).After-gather-n
+pub slice_bounds-leaves_of-end : goal.slice_bounds-leaves_of-end
+slice_bounds-leaves_of-end c = sym (front (goal.at.slice_bounds-leaves_of-end c).After-gather-n)
 
-pub slice_bounds-arrange-end-2 : goal.slice_bounds-arrange-end-2
-slice_bounds-arrange-end-2 c = sym (length-take-le _ _ (room (goal.at.slice_bounds-arrange-end-2 c).After-gather-n))
+-- the leaves are those that were gathered
+gathered : (c : After-leaves_of-leaves) → as_nodes c.leaves_of-leaves.result.now ≡ leaves (goal.at.After-leaves_of-leaves c).After-gather-n
+gathered c =
+    let d = (goal.at.After-leaves_of-leaves c).After-gather-n in
+    let n = c.gather-n.result in
+    c.leaves_of-leaves.ensures.leaves ∙ of-count n _ (front d) ∙ leaves-cut n (n * 68) c.gather-n.new.row (omega arith) ∙ c.gather-n.ensures.leaves ∙ ap (λ (l : List Node). l ++ leaves d) (leaves_none c.args.row.now)
 
-pub arrange-requires : goal.arrange-requires
-arrange-requires c = length-take-le _ _ (room (goal.at.arrange-requires c).After-gather-n)
-
--- the leaves of the tree
-abbrev leaves : After-gather-n → List Node
-leaves c =
-    let a = c.args in
-    leaves_by a.old a.epoch (records_in a.count a.records.now)
-
-kept : (c : After-arrange) → length c.arrange.new.s ≡ c.gather-n.result * 68
-kept c = c.arrange.auto.s ∙ length-take-le _ _ (room (goal.at.After-arrange c).After-gather-n)
-
--- the row, of which the front came back
-abbrev row : After-arrange → Bytes
-row c = c.arrange.new.s ++ drop (c.gather-n.result * 68) c.gather-n.new.row
-
-within : (c : After-arrange) → c.gather-n.result * 68 ≤ length (row c)
-within c = front-within c.arrange.new.s c.gather-n.new.row _ (kept c)
-
-found : (c : After-arrange) → Arranged (leaves (goal.at.After-arrange c).After-gather-n) (leaves_in c.gather-n.result (take (c.gather-n.result * 68) (row c))) c.arrange.result
-found c =
-    same-leaves (leaves (goal.at.After-arrange c).After-gather-n) c.gather-n.result _ _ _ _ c.gather-n.ensures (room (goal.at.After-arrange c).After-gather-n) c.arrange.auto.s c.arrange.ensures
+found : (c : After-arrange) → Arranged (leaves (goal.at.After-arrange c).After-gather-n) (as_nodes c.arrange.new.leaves) c.arrange.result
+found c = subst (λ S. Arranged S (as_nodes c.arrange.new.leaves) c.arrange.result) (gathered (goal.at.After-arrange c).After-leaves_of-leaves) c.arrange.ensures
 
 pub returns-then-not-arrange : goal.returns-then-not-arrange
-returns-then-not-arrange c =
-    record {
-      number = omega (arith, c.gather-n.ensures.number);
-      within = within (goal.at.returns-then-not-arrange c).After-arrange;
-      reach = reach (goal.at.returns-then-not-arrange c).After-gather-n;
-      is = sym (not-true c.arrange.result c.if-not-arrange.true-raw) ∙ (found (goal.at.returns-then-not-arrange c).After-arrange).clear;
-      stands = λ e. absurd (false≢true e);
-    }
+returns-then-not-arrange c = sym (found (goal.at.returns-then-not-arrange c).After-arrange).clear ∙ c.if-not-arrange.true
 
-alone : (c : Else-not-arrange) → c.arrange.result ≡ true
-alone c = not-false c.arrange.result c.if-not-arrange.false-raw
+ordered : (c : Else-not-arrange) → Sorted (as_nodes c.arrange.new.leaves)
+ordered c = record { sized = sized-among _ _ c.arrange.ensures.among c.leaves_of-leaves.ensures.sized; rises = c.arrange.ensures.order c.if-not-arrange.false }
 
-pub overflow_mul-room : goal.overflow_mul-room
-overflow_mul-room c = let h = reach (goal.at.overflow_mul-room c).After-gather-n in search rules
+count : (c : After-arrange) → length c.arrange.new.leaves ≡ c.gather-n.result
+count c =
+    let d = (goal.at.After-arrange c).After-gather-n in
+    omega (arith, c.arrange.auto.leaves, row-count c.leaves_of-leaves.result.now _ c.leaves_of-leaves.ensures.leaves, front d)
+
+slotted : (c : After-gather-n) → length (take c.gather-n.result c.args.slots.now) ≡ c.gather-n.result
+slotted c = length-take-le _ _ (omega (arith, few c, c.requires.digests))
 
 pub slice_bounds-store-end : goal.slice_bounds-store-end
-slice_bounds-store-end c = within (goal.at.slice_bounds-store-end c).After-arrange
-
-pub slice_bounds-store-end-2 : goal.slice_bounds-store-end-2
-slice_bounds-store-end-2 c = sym (length-take-le _ _ (within (goal.at.slice_bounds-store-end-2 c).After-arrange))
-
-pub slice_bounds-store-end-3 : goal.slice_bounds-store-end-3
-slice_bounds-store-end-3 c = reach (goal.at.slice_bounds-store-end-3 c).After-gather-n
-
-pub slice_bounds-store-end-4 : goal.slice_bounds-store-end-4
-slice_bounds-store-end-4 c = sym (length-take-le _ _ (reach (goal.at.slice_bounds-store-end-4 c).After-gather-n))
-
-in-order : (c : Else-not-arrange) → Sorted c.gather-n.result (take (c.gather-n.result * 68) (row (goal.at.Else-not-arrange c).After-arrange))
-in-order c =
-    ordered (leaves (goal.at.Else-not-arrange c).After-gather-n) c.gather-n.result _ _ _ _ c.gather-n.ensures (room (goal.at.Else-not-arrange c).After-gather-n) c.arrange.auto.s c.arrange.ensures (alone c)
+slice_bounds-store-end c = sym (slotted (goal.at.slice_bounds-store-end c).After-gather-n)
 
 pub store-requires : goal.store-requires
-store-requires c =
-    (in-order (goal.at.store-requires c).Else-not-arrange, length-take-le _ _ (reach (goal.at.store-requires c).After-gather-n))
+store-requires c = (ordered (goal.at.store-requires c).Else-not-arrange, slotted (goal.at.store-requires c).After-gather-n ∙ sym (count (goal.at.store-requires c).After-arrange))
 
 pub returns : goal.returns
 returns c =
+    let d = (goal.at.returns c).After-arrange in
+    let w = found d in
+    let e = c.store.ensures.leaves in
     record {
-      number = omega (arith, c.gather-n.ensures.number);
-      within = within (goal.at.returns c).After-arrange;
-      reach = front-within c.store.new.slots c.args.slots.now _ (c.store.auto.slots ∙ length-take-le _ c.args.slots.now (reach (goal.at.returns c).After-gather-n));
-      is = sym (alone (goal.at.returns c).Else-not-arrange) ∙ (found (goal.at.returns c).After-arrange).clear;
-      stands = λ _. standing (leaves (goal.at.returns c).After-gather-n) c.gather-n.result _ _ _ _ c.gather-n.ensures (room (goal.at.returns c).After-gather-n) c.arrange.auto.s c.arrange.ensures (alone (goal.at.returns c).Else-not-arrange) c.args.slots.now c.store.new.slots _ c.store.auto.slots (reach (goal.at.returns c).After-gather-n) c.store.ensures.stored;
+      alone = sym w.clear ∙ c.if-not-arrange.false;
+      standing = record {
+        kept = c.store.ensures.tree;
+        number = ap length e ∙ count d ∙ omega (arith, c.gather-n.ensures.number);
+        tree = rw e (w.tree c.if-not-arrange.false);
+        labels = rw e w.labels;
+      };
     }

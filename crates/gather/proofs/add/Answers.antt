@@ -7,14 +7,14 @@ use Rattle.gather.proofs.add.Goals as goal
 
 pub returns-then-epoch-epoch_at : goal.returns-then-epoch-epoch_at
 returns-then-epoch-epoch_at c =
-    rw (by-later (record_at c.args.records.now c.args.i) c.args.old c.args.epoch (omega (arith, c.epoch_at.ensures, c.if-epoch-epoch_at.true))) (gain-none c.args.row.now c.args.n)
+    rw (by-later (record_at c.args.records.now c.args.i) c.args.which c.args.epoch (omega (arith, c.epoch_at.ensures, c.if-epoch-epoch_at.true))) (gain-none c.args.row.now c.args.n)
 
-pub returns-then-old : goal.returns-then-old
-returns-then-old c =
+pub returns-in-OfOld : goal.returns-in-OfOld
+returns-in-OfOld c =
     let h = c.if-epoch-epoch_at.false in
-    rw (by-then (record_at c.args.records.now c.args.i) c.args.old c.args.epoch (omega (arith, c.epoch_at.ensures, h)), c.if-old.true) c.add_old.ensures
+    rw (by-then (record_at c.args.records.now c.args.i) c.args.which c.args.epoch (omega (arith, c.epoch_at.ensures, h)), c.in-OfOld.is) c.add_old.ensures
 
-pub returns : goal.returns
-returns c =
+pub returns-in-OfAll : goal.returns-in-OfAll
+returns-in-OfAll c =
     let h = c.if-epoch-epoch_at.false in
-    rw (by-then (record_at c.args.records.now c.args.i) c.args.old c.args.epoch (omega (arith, c.epoch_at.ensures, h)), c.if-old.false) c.add_all.ensures
+    rw (by-then (record_at c.args.records.now c.args.i) c.args.which c.args.epoch (omega (arith, c.epoch_at.ensures, h)), c.in-OfAll.is) c.add_all.ensures

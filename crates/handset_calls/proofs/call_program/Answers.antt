@@ -1,10 +1,10 @@
 -- What is written of the line lies in its text.
-use Rattle.std.proofs.Common.{sym, length-take-le}
+use Rattle.std.proofs.Common.{◌≡◌, length, rules, arith}
 use Rattle.line.proofs.Texts.{text-within}
 use Rattle.handset_calls.proofs.call_program.Goals as goal
 
-pub slice_bounds-bytes-end : goal.slice_bounds-bytes-end
-slice_bounds-bytes-end g c = text-within c.program_line-text.result _ c.program_line-text.ensures
-
-pub slice_bounds-print_text-end : goal.slice_bounds-print_text-end
-slice_bounds-print_text-end g c = sym (length-take-le _ _ (text-within c.program_line-text.result _ c.program_line-text.ensures))
+pub as_bytes-requires : goal.as_bytes-requires
+as_bytes-requires g c =
+    let text = c.program_line.result in
+    let room : length text.bytes ≡ 64 = search rules in
+    omega (arith, text-within text _ c.program_line.ensures)

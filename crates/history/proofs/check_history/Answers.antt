@@ -1,97 +1,17 @@
--- `history::check_history`: each test is the next of document 01's order.
-use native.Mathlib.Omega.{arith}
-use mathlib.Core.Path.{◌≡◌, sym, ap, ◌∙◌}
-use mathlib.Core.Bool.{true}
-use lib.ListN.{length}
-use Rattle.paper.specs.Bytes.{Bytewise}
-use Rattle.paper.specs.Fields.{is_name}
-use Rattle.paper.specs.History.{history_asked}
-use Rattle.ranges.proofs.Slices.{bytewise}
-use Rattle.shown.specs.Form.{front_at, first_path}
-use Rattle.shown.specs.declared.Front.TheVariants as F
-use Rattle.names.proofs.Named.{name-short}
-use Rattle.shown.proofs.Fronts.{front-told}
-use Rattle.shown.proofs.Formed.{Formed, formed}
-use Rattle.history.specs.Walk.{answer_of}
-use Rattle.history.proofs.Tested.{keys-stand}
-use Rattle.history.proofs.Checked.{head-unsized, name-refused, no_front, no_body, head-refused, answered}
+-- `history::check_history`: what the check finds.
+use mathlib.Core.Path.{sym, ap, ◌∙◌}
+use Rattle.std.proofs.lemmas.Result.{err_from_is_err_and}
+use Rattle.history.proofs.Checked.{told, history-checked}
 use Rattle.history.proofs.check_history.Goals as goal
-use Rattle.history.proofs.check_history.Goals.{After-first_path, Else-not-is_name, In-At, In-Read}
 
--- ---- 1: the arguments
-pub returns-then-head-ne32 : goal.returns-then-head-ne32
-returns-then-head-ne32 c =
+pub returns-in_err-versions : goal.returns-in_err-versions
+returns-in_err-versions c =
     let a = c.args in
-    sym (head-unsized a.head.now a.name.now a.proof.now c.if-head-ne32.true)
-
-pub returns-then-not-is_name : goal.returns-then-not-is_name
-returns-then-not-is_name c =
-    let a = c.args in
-    sym (name-refused a.head.now a.name.now a.proof.now c.if-head-ne32.false (sym c.is_name.ensures ∙ c.if-not-is_name.true))
-
-sized : (c : Else-not-is_name) → length c.args.head.now ≡ 32
-sized c = c.if-head-ne32.false
-
-named : (c : Else-not-is_name) → is_name c.args.name.now ≡ true
-named c = sym c.is_name.ensures ∙ c.if-not-is_name.false
-
-bytes : (c : Else-not-is_name) → Bytewise c.args.proof.now
-bytes c = bytewise c.args.proof.now c.type_inv.proof
-
--- ---- 2: the layout
-pub returns-in_default : goal.returns-in_default
-returns-in_default c =
-    let a = c.args in
-    sym (no_front a.head.now a.name.now a.proof.now (sized (goal.at.returns-in_default c).Else-not-is_name) (named (goal.at.returns-in_default c).Else-not-is_name) (bytes (goal.at.returns-in_default c).Else-not-is_name) (sym c.read_front.ensures ∙ c.in_default.is))
-
-front : (c : In-Read) → front_at 2 c.args.proof.now ≡ F.Read c.in-Read.number c.in-Read.epoch
-front c = sym c.read_front.ensures ∙ c.in-Read.is
-
-pub first_path-requires : goal.first_path-requires
-first_path-requires c =
-    (front-told 2 c.args.proof.now (bytes (goal.at.first_path-requires c).Else-not-is_name) _ _ (front (goal.at.first_path-requires c).In-Read)).room
-
--- as many paths are looked for as are asked
-placed : (c : After-first_path) →
-    c.first_path.result ≡ first_path c.in-Read.number (length (history_asked c.in-Read.number c.in-Read.epoch)) c.args.proof.now
-placed c =
-    c.first_path.ensures ∙ ap (λ m. first_path c.in-Read.number m c.args.proof.now) c.history_paths.ensures
-
-pub returns-in_default-first_path : goal.returns-in_default-first_path
-returns-in_default-first_path c =
-    let a = c.args in
-    sym (no_body a.head.now a.name.now a.proof.now (sized (goal.at.returns-in_default-first_path c).Else-not-is_name) (named (goal.at.returns-in_default-first_path c).Else-not-is_name) (bytes (goal.at.returns-in_default-first_path c).Else-not-is_name) _ _ (front (goal.at.returns-in_default-first_path c).In-Read) (sym (placed (goal.at.returns-in_default-first_path c).After-first_path) ∙ c.in_default-first_path.is))
-
--- the proof is in layout
-form : (c : In-At) →
-    Formed 2 (λ n. n) history_asked c.args.proof.now (bytes (goal.at.In-At c).Else-not-is_name) c.in-Read.number c.in-Read.epoch (front (goal.at.In-At c).In-Read) c.in-At.first
-form c =
-    formed 2 (λ n. n) history_asked c.args.proof.now (bytes (goal.at.In-At c).Else-not-is_name) _ _ (front (goal.at.In-At c).In-Read) _ (sym (placed (goal.at.In-At c).After-first_path) ∙ c.in-At.is)
-
--- ---- 3: the head, and then the paths
-pub head_hashes-requires : goal.head_hashes-requires
-head_hashes-requires c =
-    omega (arith, (front-told 2 c.args.proof.now (bytes (goal.at.head_hashes-requires c).Else-not-is_name) _ _ (front (goal.at.head_hashes-requires c).In-Read)).room)
-
-pub returns-then-not-head_hashes : goal.returns-then-not-head_hashes
-returns-then-not-head_hashes c =
-    let a = c.args in
-    sym (head-refused a.head.now a.name.now a.proof.now (sized (goal.at.returns-then-not-head_hashes c).Else-not-is_name) (named (goal.at.returns-then-not-head_hashes c).Else-not-is_name) (bytes (goal.at.returns-then-not-head_hashes c).Else-not-is_name) _ _ (front (goal.at.returns-then-not-head_hashes c).In-Read) _ (form (goal.at.returns-then-not-head_hashes c).In-At) (sym c.head_hashes.ensures ∙ c.if-not-head_hashes.true))
-
-pub walk_paths-requires : goal.walk_paths-requires
-walk_paths-requires c =
-    let a = c.args in
-    let t = front-told 2 a.proof.now (bytes (goal.at.walk_paths-requires c).Else-not-is_name) c.in-Read.number c.in-Read.epoch (front (goal.at.walk_paths-requires c).In-Read) in
-    record {
-      bytes = bytes (goal.at.walk_paths-requires c).Else-not-is_name;
-      front = omega (arith, t.room);
-      short = name-short a.name.now (named (goal.at.walk_paths-requires c).Else-not-is_name);
-      small = t.small;
-      items = keys-stand a.proof.now (bytes (goal.at.walk_paths-requires c).Else-not-is_name) _ _ (front (goal.at.walk_paths-requires c).In-Read) _ (form (goal.at.walk_paths-requires c).In-At);
-    }
+    let p = err_from_is_err_and c.from_residual.result c.from_residual.ensures.1 in
+    rw (p.1, p.2)
+    (ap (told a.head.now a.name.now a.proof.now) (sym c.in_err-versions.was ∙ c.check.ensures) ∙ history-checked a.head.now a.name.now a.proof.now)
 
 pub returns : goal.returns
 returns c =
     let a = c.args in
-    c.answer.ensures ∙ ap (answer_of c.in-Read.number c.in-Read.epoch) c.walk_paths.ensures
-    ∙ sym (answered a.head.now a.name.now a.proof.now (sized (goal.at.returns c).Else-not-is_name) (named (goal.at.returns c).Else-not-is_name) (bytes (goal.at.returns c).Else-not-is_name) _ _ (front (goal.at.returns c).In-Read) _ (form (goal.at.returns c).In-At) (sym c.head_hashes.ensures ∙ c.if-not-head_hashes.false))
+    ap (told a.head.now a.name.now a.proof.now) (sym c.in_ok-versions.was ∙ c.check.ensures) ∙ history-checked a.head.now a.name.now a.proof.now

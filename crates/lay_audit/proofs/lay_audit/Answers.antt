@@ -6,9 +6,9 @@ use mathlib.Core.Bool.{true}
 use Prim.Native.Nat.{◌+◌, ◌*◌, ◌≤◌}
 use lib.ListN.{length}
 use Rattle.paper.specs.Bytes.{Bytes}
-use Rattle.paper.specs.Level.{leaves_in}
-use Rattle.paper.specs.declared.WriteAnswer.TheVariants as W
-use Rattle.tested.proofs.Weighed.{no_room, written}
+use Rattle.leaf_row.specs.Row.{as_nodes}
+use Rattle.paper.specs.Answer.{written}
+use Rattle.tested.proofs.Weighed.{no_room, wrote}
 use Rattle.lay_audit.specs.Audited.{bytes_with}
 use Rattle.lay_audit.proofs.Bytes.{rows-size, list-few}
 use Rattle.lay_audit.proofs.lay_audit.Goals as goal
@@ -18,14 +18,18 @@ use Rattle.lay_audit.proofs.lay_audit.Goals.{After-list_length-first, After-list
 few : (c : After-list_length-first) → c.list_length-first.result ≤ 16384
 few c =
     let a = c.args in
-    let k = c.requires.1 in
-    omega (arith, c.list_length-first.ensures, list-few a.epoch a.a.leaves a.all.now a.all_slots.now a.a.sides k.first k.first_stored k.first_few)
+    omega (arith, c.list_length-first.ensures, list-few a.epoch a.all.now c.requires.1)
 
 few-2 : (c : After-list_length-second) → c.list_length-second.result ≤ 16384
 few-2 c =
     let a = c.args in
-    let k = c.requires.1 in
-    omega (arith, c.list_length-second.ensures, list-few a.epoch a.o.leaves a.old.now a.old_slots.now a.o.sides k.second k.second_stored k.second_few)
+    omega (arith, c.list_length-second.ensures, list-few a.epoch a.old.now c.requires.2)
+
+pub list_length-first-requires : goal.list_length-first-requires
+list_length-first-requires c = c.requires.1.tree.sorted
+
+pub list_length-second-requires : goal.list_length-second-requires
+list_length-second-requires c = c.requires.2.tree.sorted
 
 pub overflow_mul-first : goal.overflow_mul-first
 overflow_mul-first c = omega (arith, few c)
@@ -34,13 +38,13 @@ pub overflow_mul-second : goal.overflow_mul-second
 overflow_mul-second c = omega (arith, few-2 c)
 
 abbrev proof : After-list_length-second → Bytes
-proof c = let a = c.args in bytes_with a.heads.now a.epoch (leaves_in a.a.leaves a.all.now) (leaves_in a.o.leaves a.old.now)
+proof c = let a = c.args in bytes_with a.heads.now a.epoch (as_nodes a.all.now.leaves.now) (as_nodes a.old.now.leaves.now)
 
 -- its length
 size : (c : After-list_length-second) → length (proof c) ≡ 214 + c.list_length-first.result * 99 + c.list_length-second.result * 99
 size c =
     let a = c.args in
-    omega (arith, rows-size a.heads.now a.epoch a.a.leaves a.o.leaves a.all.now a.old.now c.requires.0 c.requires.1.first c.requires.1.second, c.list_length-first.ensures, c.list_length-second.ensures)
+    omega (arith, rows-size a.heads.now a.epoch (as_nodes a.all.now.leaves.now) (as_nodes a.old.now.leaves.now) c.requires.0 c.requires.1.tree.sorted c.requires.2.tree.sorted, c.list_length-first.ensures, c.list_length-second.ensures)
 
 pub returns-then-not-has_room : goal.returns-then-not-has_room
 returns-then-not-has_room c =
@@ -56,7 +60,7 @@ fits c =
     omega (arith, size (goal.at.Else-not-has_room c).After-list_length-second, leb-true (214 + c.list_length-first.result * 99 + c.list_length-second.result * 99) (length a.out.now) (sym c.has_room.ensures ∙ not-false c.has_room.result c.if-not-has_room.false-raw))
 
 pub lay-requires : goal.lay-requires
-lay-requires c = (c.requires.0, c.requires.1, fits (goal.at.lay-requires c).Else-not-has_room)
+lay-requires c = (c.requires.0, c.requires.1, c.requires.2, fits (goal.at.lay-requires c).Else-not-has_room)
 
 pub overflow_add-result : goal.overflow_add-result
 overflow_add-result c = omega (arith, few (goal.at.overflow_add-result c).After-list_length-first, few-2 (goal.at.overflow_add-result c).After-list_length-second)
@@ -67,5 +71,5 @@ overflow_add-result-2 c = omega (arith, few (goal.at.overflow_add-result-2 c).Af
 pub returns : goal.returns
 returns c =
     let a = c.args in
-    let whole = written a.state a.out.now true (proof (goal.at.returns c).After-list_length-second) refl (fits (goal.at.returns c).Else-not-has_room) in
-    sym (whole ∙ ap₂ (λ x (o : Bytes). record { answer = W.Written x a.state; out = o }) (size (goal.at.returns c).After-list_length-second) (sym c.lay.ensures))
+    let whole = wrote a.state a.out.now true (proof (goal.at.returns c).After-list_length-second) refl (fits (goal.at.returns c).Else-not-has_room) in
+    sym (whole ∙ ap₂ (λ x (o : Bytes). record { answer = written x a.state; out = o }) (size (goal.at.returns c).After-list_length-second) (sym c.lay.ensures))

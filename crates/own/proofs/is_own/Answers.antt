@@ -2,13 +2,8 @@
 use native.Mathlib.Omega.{arith}
 use mathlib.Core.Path.{sym, ap, ◌∙◌}
 use Rattle.paper.specs.Bytes.{same}
-use Rattle.own.proofs.Versions.{own-later, own-then}
+use Rattle.own.proofs.Versions.{own-then}
 use Rattle.own.proofs.is_own.Goals as goal
-
-pub returns-then-epoch-epoch_at : goal.returns-then-epoch-epoch_at
-returns-then-epoch-epoch_at c =
-    let a = c.args in
-    sym (own-later a.records.now a.name.now a.epoch a.i (omega (arith, c.epoch_at.ensures, c.if-epoch-epoch_at.true)))
 
 pub returns : goal.returns
 returns c =

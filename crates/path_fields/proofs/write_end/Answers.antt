@@ -5,11 +5,9 @@ use Rattle.path_fields.proofs.Writing.{end-wrote}
 use Rattle.path_fields.proofs.write_end.Goals as goal
 
 pub shape_of-out : goal.shape_of-out
-shape_of-out c =
-    let a = c.args in
-    c.put.auto.dst ∙ length-set a.out.now a.at a.kind
+shape_of-out c = c.put.auto.dst ∙ length-set c.args.out.now c.args.at c.number.result
 
 pub returns : goal.returns
 returns c =
     let a = c.args in
-    end-wrote a.out.now _ a.fields.now a.at a.kind c.requires c.put.ensures
+    rw (← c.number.ensures) (end-wrote a.out.now _ a.fields.now a.at c.number.result c.requires c.put.ensures)

@@ -1,31 +1,11 @@
--- `ranges::put`: after i turns the first i bytes of `src` are laid over `dst`.
-use borrow.Author.Rules.{rules}
-use native.Mathlib.Omega.{arith}
-use mathlib.Core.Path.{refl, sym, ap, ◌∙◌}
-use Prim.Native.Nat.{◌+◌}
-use native.Mathlib.Numerals.{add-one}
-use lib.ListN.{get_or, set, length-set}
-use lib.Seq.{paste, paste-zero, paste-suc}
+-- `ranges::put`: what is copied lies over the part.
+use Rattle.std.proofs.Common.{◌+◌, ◌-◌, length, refl, ◌∙◌, arith}
+use Rattle.std.proofs.lemmas.Slice.{put_mid-paste}
 use Rattle.paper.proofs.Pasted.{paste_all}
 use Rattle.ranges.proofs.put.Goals as goal
-
-pub loop-i-init : goal.loop-i-init
-loop-i-init c = (search rules, refl, refl, paste-zero c.args.dst.now c.args.at c.args.src.now)
-
-pub loop-i-preserved : goal.loop-i-preserved
-loop-i-preserved c =
-    let a = c.args in
-    let d = a.dst.now in
-    let s = a.src.now in
-    let i = c.loop-i.i in
-    let inv = c.loop-i.invariant in (
-      search rules,
-      inv.1,
-      simp length-set inv.2,
-      ap (λ l. set l (a.at + i) (get_or s i 0)) inv.3 ∙ paste-suc d a.at s i 0 (omega arith) (omega arith) ∙ ap (paste d a.at s) (sym (add-one i)),
-    )
 
 pub returns : goal.returns
 returns c =
     let a = c.args in
-    c.loop-i.invariant.3 ∙ paste_all a.dst.now a.at a.src.now c.loop-i.i (omega arith)
+    let n = length a.src.now in
+    put_mid-paste a.at (a.at + n - a.at) a.dst.now _ a.src.now n c.copy_from_slice.ensures.after (omega arith) refl ∙ paste_all a.dst.now a.at a.src.now n refl

@@ -1,23 +1,10 @@
--- `sha256::digest` meets its contract: its first i bytes are those of the definition. Assumes nothing.
-use mathlib.Core.Path.{refl}
-use mathlib.Core.List.{◌∷◌, []}
-use native.Mathlib.Omega.{arith}
-use lib.ListN.{length-set}
+-- `sha256::digest` meets its contract: the bytes of the eight words, one word behind the other. Assumes nothing.
+use Rattle.std.proofs.Common.{◌∙◌}
 use Rattle.fips.specs.Sha256 as S
-use Rattle.sha256.proofs.Bytes.{bytes, bytes-turn, bytes-done}
 use Rattle.sha256.proofs.digest.Goals as goal
 
-pub loop-i-init : goal.loop-i-init
-loop-i-init c = (omega arith, refl, refl)
-
-pub loop-i-preserved : goal.loop-i-preserved
-loop-i-preserved c =
-    let l = c.loop-i in
-    (omega arith, simp length-set (omega arith), bytes-turn _ l.d l.i _ (omega arith) (omega arith) l.invariant.2 c.byte.ensures)
-
 pub returns : goal.returns
-unfolding S.digest bytes
+unfolding S.digest
 returns c =
-    let l = c.loop-i in
-    let s = c.args.s in
-    bytes-done (s.a ∷ s.b ∷ s.c ∷ s.d ∷ s.e ∷ s.f ∷ s.g ∷ s.h ∷ []) l.d l.i (omega arith) (omega arith) l.invariant.2
+    c.copy_from_slice.ensures.after ∙ c.as_flattened.ensures.value
+    ∙ rw (c.to_be_bytes.ensures, c.to_be_bytes-2.ensures, c.to_be_bytes-3.ensures, c.to_be_bytes-4.ensures, c.to_be_bytes-5.ensures, c.to_be_bytes-6.ensures, c.to_be_bytes-7.ensures, c.to_be_bytes-8.ensures)

@@ -1,16 +1,16 @@
 -- `sha256::finish` meets its contract: the stores make the end of the padded message, one block of it or two. Assumes nothing.
-use mathlib.Core.Path.{refl}
-use Prim.Native.Nat.{◌+◌, ◌-◌, ◌*◌, ◌/◌}
-use native.Mathlib.Omega.{arith}
-use lib.ListN.{length}
+use Rattle.std.proofs.Common.{refl, ap, ◌∙◌, ◌+◌, ◌-◌, ◌*◌, ◌/◌, ◌++◌, length, drop, replicate, arith}
+use Rattle.fips.specs.Sha256.{be64}
 use Rattle.sha256.proofs.Padding.{made}
 use Rattle.sha256.proofs.finish.Goals as goal
 
 pub returns : goal.returns
+unfolding be64
 returns c =
     let a = c.args in
-    let d₁ = c.put in
-    let d₂ = c.put-2 in
-    let b = c.be64 in
-    let e = (length a.m.now + 8) / 64 * 64 + 64 in
-    made a.m.now a.bits 128 e d₁.new.d d₂.new.d b.result (omega arith) refl refl d₁.ensures b.ensures d₂.ensures _ _ (e - 0) (omega arith) c.blocks-2.ensures
+    let m = a.m.now in
+    let e = (length m + 8) / 64 * 64 + 64 in
+    made m a.bits 128 e (e - (e - 8)) _ _ c.copy_from_slice-2.new.self (omega arith) refl refl
+    (ap (λ f. f ++ drop (length m) (replicate 128 0)) c.copy_from_slice.ensures.after)
+    (c.copy_from_slice-2.ensures.after ∙ c.to_be_bytes.ensures)
+    refl _ _ e (omega arith) c.blocks-2.ensures

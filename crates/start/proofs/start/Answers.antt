@@ -6,7 +6,7 @@ use Rattle.paper.specs.Numbers.{wide}
 use Rattle.paper.specs.Bytes.{zeros, pasted}
 use Rattle.paper.specs.Strings.{head_string}
 use Rattle.paper.specs.Table.{heads_within}
-use Rattle.paper.specs.declared.StartAnswer.TheVariants as S
+use Rattle.std.specs.Prelude.{Ok}
 use mathlib.Core.Bool.{true}
 use Rattle.start.proofs.Started.{unstarted, started, one-head}
 use Rattle.start.proofs.start.Goals as goal
@@ -23,4 +23,4 @@ returns c =
     let root = c.empty_root-root.ensures in
     let is = c.head.ensures ∙ ap (λ r. sha256 (head_string (record { epoch = 0; previous = zeros wide; all = r; old = r }))) root in
     let e : heads_within heads ≡ true = sym c.heads_within.ensures ∙ c.if-not-heads_within.false in
-    sym (started heads e ∙ ap (λ h. record { answer = S.Started (record { count = 0; epoch = 0 }); heads = h }) (ap (pasted heads 0) (sym is) ∙ sym c.put.ensures))
+    sym (started heads e ∙ ap (λ h. record { answer = Ok (record { count = 0; epoch = 0 }); heads = h }) (ap (pasted heads 0) (sym is) ∙ sym c.put.ensures))

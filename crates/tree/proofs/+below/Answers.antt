@@ -1,146 +1,82 @@
--- `tree::below`: the leaves part where `Halves` says what the parts come to, and the slots of a fork lie as `Over` says. What is left of
--- 256 bits falls, since each part shares more bits than the whole.
+-- `tree::below`: the leaves part where `Halves` says what the parts come to, and a fork's own slot lies between those of its sides. What is
+-- left of 256 bits falls, since each part shares more bits than the whole.
 use native.Mathlib.Omega.{arith}
 use mathlib.Core.Path.{◌≡◌, sym, ap, ◌∙◌}
-use mathlib.Core.List.{◌++◌}
-use Prim.Native.Nat.{ℕ, ◌-◌, ◌*◌}
-use lib.ListN.{length, take, drop, length-drop}
+use mathlib.Core.List.{List, [], ◌++◌}
+use Prim.Native.Nat.{ℕ, ◌+◌, ◌-◌, ◌≤◌}
+use lib.ListN.{length, take, drop, get_or}
 use lib.Seq.{length-take-le}
-use Rattle.tree.proofs.Halves.{Halves, halves, before-sorted, behind-sorted}
-use Rattle.tree.proofs.Slots.{Over, length-first, length-all, laid-over, below-one-leaf, below-fork, both-wide}
-use Rattle.paper.specs.Bytes.{Bytes}
-use Rattle.ranges.proofs.Slices.{rest-is}
+use Rattle.paper.specs.Strings.{Node, nothing, inner}
+use Rattle.paper.specs.Tree.{digest, key}
+use Rattle.paper.specs.Level.{entry_leaf}
+use Rattle.leaf_row.specs.Row.{as_nodes}
+use Rattle.leaf_row.proofs.Rows.{nodes-length, node_at, nodes-take, nodes-drop}
+use Rattle.tree.specs.declared.Children.{Children}
+use Rattle.tree.proofs.Halves.{Halves, halves, left-part, right-part}
+use Rattle.tree.proofs.Slots.{laid-between, below-one-leaf, below-fork}
 use Rattle.tree.proofs.+below.Goals as goal
-use Rattle.tree.proofs.+below.Goals.{After-below-left, After-below-right, After-fork_of-fork}
+use Rattle.tree.proofs.+below.Goals.{After-fork_of-length, After-split_at, After-split_at_mut-low_slots}
 
-pub leaf_digest-requires : goal.leaf_digest-requires
-leaf_digest-requires t c = let h = c.requires.0.sorted.size in omega arith
+pub returns-then-leaves-eq1 : goal.returns-then-leaves-eq1
+returns-then-leaves-eq1 t c =
+    let row = c.args.leaves.now in
+    let n = nodes-length row in
+    let one : length row ≡ 1 = c.if-leaves-eq1.true in
+    below-one-leaf (as_nodes row) c.leaf_digest.result c.args.slots.now (n ∙ one) (c.leaf_digest.ensures ∙ ap digest (sym (node_at row 0 (omega arith)))) (c.requires.1 ∙ sym n)
 
-pub returns-then-n-eq1 : goal.returns-then-n-eq1
-returns-then-n-eq1 t c =
-    below-one-leaf c.args.n c.args.s.now c.leaf_digest.result c.args.slots.now c.if-n-eq1.true c.leaf_digest.ensures c.requires.1
+pub fork_of-length-requires : goal.fork_of-length-requires
+fork_of-length-requires t c = (omega (arith, c.requires.0.some, nodes-length c.args.leaves.now), c.requires.0.sorted)
 
-pub fork_of-fork-requires : goal.fork_of-fork-requires
-fork_of-fork-requires t c = let h = c.requires.0.some in (omega arith, c.requires.0.sorted)
+abbrev leaves : (t : ℕ) → After-fork_of-length t → List Node
+leaves t c = as_nodes c.args.leaves.now
 
-cut : (t : ℕ) (c : After-fork_of-fork t) → Halves c.args.n c.args.from c.args.s.now c.fork_of-fork.result.length c.fork_of-fork.result.left
+cut : (t : ℕ) (c : After-fork_of-length t) → Halves c.args.from (leaves t c) c.fork_of-length.result.length c.fork_of-length.result.left
 cut t c =
-    let a = c.args in
     let h = c.requires.0 in
-    halves a.n a.from a.s.now c.fork_of-fork.result.length c.fork_of-fork.result.left h.sorted h.deep h.range c.fork_of-fork.ensures
+    halves c.args.from (leaves t c) c.fork_of-length.result.length c.fork_of-length.result.left h.sorted h.deep h.range c.fork_of-length.ensures
 
-pub overflow_mul-middle : goal.overflow_mul-middle
-overflow_mul-middle t c = let h = cut t c in omega (arith, h.small, h.least, h.less, c.requires.0.sorted.size, c.requires.1)
+less : (t : ℕ) (c : After-fork_of-length t) → c.fork_of-length.result.left + 1 ≤ length c.args.leaves.now
+less t c = omega (arith, (cut t c).less, nodes-length c.args.leaves.now)
 
-pub overflow_sub-slot : goal.overflow_sub-slot
-overflow_sub-slot t c = let h = cut t c in omega (arith, h.small, h.least, h.less, c.requires.0.sorted.size, c.requires.1)
+low : (t : ℕ) (c : After-split_at t) → as_nodes c.split_at.result.0.now ≡ take c.fork_of-length.result.left (as_nodes c.args.leaves.now)
+low t c = ap as_nodes c.split_at.ensures.front ∙ nodes-take c.fork_of-length.result.left c.args.leaves.now
 
-pub overflow_mul-slot : goal.overflow_mul-slot
-overflow_mul-slot t c = let h = cut t c in omega (arith, h.small, h.least, h.less, c.requires.0.sorted.size, c.requires.1)
+high : (t : ℕ) (c : After-split_at t) → as_nodes c.split_at.result.1.now ≡ drop c.fork_of-length.result.left (as_nodes c.args.leaves.now)
+high t c = ap as_nodes c.split_at.ensures.back ∙ nodes-drop c.fork_of-length.result.left c.args.leaves.now
 
-pub overflow_mul-behind : goal.overflow_mul-behind
-overflow_mul-behind t c = let h = cut t c in omega (arith, h.small, h.least, h.less, c.requires.0.sorted.size, c.requires.1)
+-- the slots of the left side, without the fork's own
+low-slots : (t : ℕ) (c : After-split_at_mut-low_slots t) → length (take (c.fork_of-length.result.left - 1) c.split_at_mut-low_slots.result.0.now) ≡ c.fork_of-length.result.left - 1
+low-slots t c = length-take-le _ _ (omega (arith, c.split_at_mut-low_slots.ensures.front_len))
 
-pub slice_bounds-below-end : goal.slice_bounds-below-end
-slice_bounds-below-end t c = sym (length-take-le (c.fork_of-fork.result.left * 68) c.args.s.now (let h = cut t (goal.at.slice_bounds-below-end t c).After-fork_of-fork in omega (arith, h.small, h.least, h.less, c.requires.0.sorted.size, c.requires.1)))
-
-pub overflow_add-k : goal.overflow_add-k
-overflow_add-k t c = let h = cut t (goal.at.overflow_add-k t c).After-fork_of-fork in omega (arith, h.small, h.least, h.less, c.requires.0.sorted.size, c.requires.1)
-
-pub slice_bounds-below-end-2 : goal.slice_bounds-below-end-2
-slice_bounds-below-end-2 t c = let h = cut t (goal.at.slice_bounds-below-end-2 t c).After-fork_of-fork in omega (arith, h.small, h.least, h.less, c.requires.0.sorted.size, c.requires.1)
-
-pub slice_bounds-below-end-3 : goal.slice_bounds-below-end-3
-slice_bounds-below-end-3 t c = sym (length-take-le ((c.fork_of-fork.result.left - 1) * 64) c.args.slots.now (let h = cut t (goal.at.slice_bounds-below-end-3 t c).After-fork_of-fork in omega (arith, h.small, h.least, h.less, c.requires.0.sorted.size, c.requires.1)))
-
-pub below-left-requires : goal.below-left-requires
-below-left-requires t c =
-    let a = c.args in
-    let h = cut t (goal.at.below-left-requires t c).After-fork_of-fork in
-    let m = c.fork_of-fork.result.left in
-    let q = c.decreases in (
-      omega (arith, q, h.deeper, h.small),
-      (record { some = h.least; deep = omega arith; sorted = before-sorted a.n a.s.now c.requires.0.sorted m (omega (arith, h.less)); range = h.left }, length-take-le ((m - 1) * 64) a.slots.now (omega (arith, h.least, h.less, c.requires.1))),
+pub below-requires : goal.below-requires
+below-requires t c =
+    let h = cut t (goal.at.below-requires t c).After-fork_of-length in
+    let e = low t (goal.at.below-requires t c).After-split_at in (
+      omega (arith, c.decreases, h.deeper, h.small),
+      (rw e (left-part c.requires.0.sorted h), omega (arith, low-slots t (goal.at.below-requires t c).After-split_at_mut-low_slots, c.split_at.ensures.front_len, h.least)),
     )
 
-over : (t : ℕ) (c : After-below-left t)
-    → Over c.args.slots.now c.below-left.new.slots ((c.fork_of-fork.result.left - 1) * 64) 64 (c.fork_of-fork.result.left * 64)
-over t c =
-    let h = cut t (goal.at.After-below-left t c).After-fork_of-fork in
-    let m = c.fork_of-fork.result.left in
-    let o = c.args.slots.now in
-    let l = c.requires.1 in
-    record {
-      next = omega (arith, h.least);
-      within = omega (arith, h.least, h.less, l);
-      left = c.below-left.auto.slots ∙ length-take-le ((m - 1) * 64) o (omega (arith, h.least, h.less, l));
-    }
-
--- the slots behind
-abbrev second : (t : ℕ) → After-below-left t → Bytes
-second t c = c.below-left.new.slots ++ drop ((c.fork_of-fork.result.left - 1) * 64) c.args.slots.now
-
-length_rest : (t : ℕ) (c : After-below-left t)
-    → length (take (length (second t c) - c.fork_of-fork.result.left * 64) (drop (c.fork_of-fork.result.left * 64) (second t c)))
-    ≡ length c.args.slots.now - c.fork_of-fork.result.left * 64
-length_rest t c =
-    let b = c.fork_of-fork.result.left * 64 in
-    ap length (rest-is (second t c) b) ∙ length-drop b (second t c) ∙ ap (λ i. i - b) (length-first _ _ _ _ _ (over t c))
-
-pub slice_bounds-below-count : goal.slice_bounds-below-count
-slice_bounds-below-count t c = let h = cut t (goal.at.slice_bounds-below-count t c).After-fork_of-fork in omega (arith, h.small, h.least, h.less, c.requires.0.sorted.size, c.requires.1)
-
-pub slice_bounds-below-start : goal.slice_bounds-below-start
-slice_bounds-below-start t c = let h = cut t (goal.at.slice_bounds-below-start t c).After-fork_of-fork in omega (arith, h.small, h.least, h.less, c.requires.0.sorted.size, c.requires.1)
-
-pub overflow_sub-n : goal.overflow_sub-n
-overflow_sub-n t c = let h = cut t (goal.at.overflow_sub-n t c).After-fork_of-fork in omega (arith, h.small, h.least, h.less, c.requires.0.sorted.size, c.requires.1)
-
-pub overflow_add-k-2 : goal.overflow_add-k-2
-overflow_add-k-2 t c = let h = cut t (goal.at.overflow_add-k-2 t c).After-fork_of-fork in omega (arith, h.small, h.least, h.less, c.requires.0.sorted.size, c.requires.1)
-
-pub slice_bounds-below-count-2 : goal.slice_bounds-below-count-2
-slice_bounds-below-count-2 t c = let h = cut t (goal.at.slice_bounds-below-count-2 t c).After-fork_of-fork in omega (arith, h.small, h.least, h.less, c.requires.0.sorted.size, c.requires.1, length-first _ _ _ _ _ (over t (goal.at.slice_bounds-below-count-2 t c).After-below-left))
-
-pub slice_bounds-below-start-2 : goal.slice_bounds-below-start-2
-slice_bounds-below-start-2 t c = let h = cut t (goal.at.slice_bounds-below-start-2 t c).After-fork_of-fork in omega (arith, h.small, h.least, h.less, c.requires.0.sorted.size, c.requires.1, length-first _ _ _ _ _ (over t (goal.at.slice_bounds-below-start-2 t c).After-below-left))
-
-pub below-right-requires : goal.below-right-requires
-below-right-requires t c =
-    let a = c.args in
-    let h = cut t (goal.at.below-right-requires t c).After-fork_of-fork in
-    let m = c.fork_of-fork.result.left in
-    let q = c.decreases in
-    let l = length-first _ _ _ _ _ (over t (goal.at.below-right-requires t c).After-below-left) in (
-      omega (arith, q, h.deeper, h.small),
-      (record { some = omega (arith, h.less); deep = omega arith; sorted = behind-sorted a.n a.s.now c.requires.0.sorted m (omega (arith, h.less)); range = h.right }, length_rest t (goal.at.below-right-requires t c).After-below-left ∙ omega (arith, h.less, c.requires.1)),
+pub below-requires-2 : goal.below-requires-2
+below-requires-2 t c =
+    let h = cut t (goal.at.below-requires-2 t c).After-fork_of-length in
+    let e = high t (goal.at.below-requires-2 t c).After-split_at in (
+      omega (arith, c.decreases, h.deeper, h.small),
+      (rw e (right-part c.requires.0.sorted h), omega (arith, c.split_at_mut-low_slots.ensures.back_len, c.split_at.ensures.back_len, c.requires.1)),
     )
-
-right-length : (t : ℕ) (c : After-below-right t)
-    → length c.below-right.new.slots ≡ length c.args.slots.now - c.fork_of-fork.result.left * 64
-right-length t c = c.below-right.auto.slots ∙ length_rest t (goal.at.After-below-right t c).After-below-left
-
-pub put_both-requires : goal.put_both-requires
-put_both-requires t c =
-    let h = cut t (goal.at.put_both-requires t c).After-fork_of-fork in
-    omega (arith, h.least, h.less, c.requires.1, length-all _ _ _ _ _ (over t (goal.at.put_both-requires t c).After-below-left) c.below-right.new.slots (right-length t (goal.at.put_both-requires t c).After-below-right))
-
-pub fork_digest-requires : goal.fork_digest-requires
-fork_digest-requires t c =
-    let h = cut t (goal.at.fork_digest-requires t c).After-fork_of-fork in
-    (omega (arith, h.less, c.requires.0.sorted.size), omega (arith, h.small))
-
-pub shape_of-slots : goal.shape_of-slots
-shape_of-slots t c =
-    c.put_both.auto.slots ∙ length-all _ _ _ _ _ (over t (goal.at.shape_of-slots t c).After-below-left) c.below-right.new.slots (right-length t (goal.at.shape_of-slots t c).After-below-right)
 
 pub returns : goal.returns
 returns t c =
-    let a = c.args in
-    let m = c.fork_of-fork.result.left in
-    let x = c.below-left.result in
-    let y = c.below-right.result in
-    let u = c.below-left.new.slots in
-    let v = c.below-right.new.slots in
-    below-fork a.n a.from a.s.now c.fork_of-fork.result.length m x y c.fork_digest.result u v _ (cut t (goal.at.returns t c).After-fork_of-fork) c.below-left.ensures c.below-right.ensures c.fork_digest.ensures
-    (c.put_both.ensures ∙ laid-over _ _ _ _ _ (over t (goal.at.returns t c).After-below-left) v (x ++ y) (both-wide c.below-left.ensures c.below-right.ensures))
+    let d = (goal.at.returns t c).After-fork_of-length in
+    let p = (goal.at.returns t c).After-split_at in
+    let h = cut t d in
+    let m = c.fork_of-length.result.left in
+    let row = c.args.leaves.now in
+    let o = c.split_at_mut-low_slots.result.0.now in
+    let u = c.below.new.slots in
+    let both : Children = record { left = c.below.result; right = c.below-2.result } in
+    let size : length u ≡ m - 1 = c.below.auto.slots ∙ low-slots t (goal.at.returns t c).After-split_at_mut-low_slots in
+    let first : entry_leaf (get_or row 0 []) ≡ get_or (as_nodes row) 0 nothing = sym (node_at row 0 (omega (arith, less t d))) in
+    below-fork c.args.from (leaves t d) c.fork_of-length.result.length m c.below.result c.below-2.result c.fork_digest.result u c.below-2.new.slots _ h
+    (rw (low t p) at c.below.ensures) (rw (high t p) at c.below-2.ensures)
+    (c.fork_digest.ensures ∙ ap (λ x. digest (inner (take c.fork_of-length.result.length (key x)) c.below.result c.below-2.result)) first)
+    (ap (λ z. z ++ c.below-2.new.slots) (laid-between o u m both h.least c.split_at_mut-low_slots.ensures.front_len size))

@@ -1,85 +1,51 @@
 -- `tree::store`: the leaves part at the first bit, and each side has its own slots.
 use native.Mathlib.Omega.{arith}
-use mathlib.Core.Path.{sym, ap, ◌∙◌, subst}
-use Prim.Native.Nat.{◌-◌, ◌*◌, ◌≤◌}
-use lib.ListN.{length, length-drop}
-use lib.Seq.{length-take-le}
-use Rattle.paper.specs.Level.{leaves_in}
-use Rattle.tree.specs.Stored.{SideLaid}
+use mathlib.Core.Path.{◌≡◌, refl, sym, ap, ◌∙◌}
+use mathlib.Core.List.{List}
+use lib.ListN.{take, drop}
+use Rattle.paper.specs.Strings.{Node}
+use Rattle.leaf_row.specs.Row.{as_nodes}
+use Rattle.leaf_row.proofs.Rows.{nodes-length, nodes-take, nodes-drop}
 use Rattle.tree.proofs.Step.{root-range}
-use Rattle.tree.proofs.Halves.{behind, RootHalves, root-halves, before-sorted, behind-sorted}
-use Rattle.tree.proofs.Slots.{Over, length-first, all-is, old-rest, sides-laid}
+use Rattle.tree.proofs.Halves.{RootHalves, root-halves, before-sorted, behind-sorted}
+use Rattle.tree.proofs.Slots.{sides-laid}
 use Rattle.tree.proofs.store.Goals as goal
-use Rattle.tree.proofs.store.Goals.{After-side-left, After-split-m}
+use Rattle.tree.proofs.store.Goals.{After-split-split, After-split_at}
 
-cut : (c : After-split-m) → RootHalves c.args.n c.args.s.now c.split-m.result
-cut c = root-halves c.args.n c.args.s.now c.split-m.result c.requires.0 c.split-m.ensures
+abbrev leaves : After-split-split → List Node
+leaves c = as_nodes c.args.leaves.now
 
-over : (c : After-side-left) → Over c.args.slots.now c.side-left.new.slots (c.split-m.result * 64) 0 (c.split-m.result * 64)
-over c =
-    let m = c.split-m.result in
-    let within : m * 64 ≤ length c.args.slots.now = omega (arith, (cut (goal.at.After-side-left c).After-split-m).most, c.requires.1) in
-    record { next = omega arith; within = within; left = c.side-left.auto.slots ∙ length-take-le (m * 64) c.args.slots.now within }
+cut : (c : After-split-split) → RootHalves (leaves c) c.split-split.result
+cut c = root-halves (leaves c) c.split-split.result c.requires.0 c.split-split.ensures
 
-pub split-m-requires : goal.split-m-requires
-split-m-requires c = (c.requires.0, root-range _)
+pub split-split-requires : goal.split-split-requires
+split-split-requires c = (c.requires.0, root-range _)
 
-pub overflow_mul-middle : goal.overflow_mul-middle
-overflow_mul-middle c = omega (arith, (cut c).most, c.requires.0.size, c.requires.1)
+pub split_at-requires : goal.split_at-requires
+split_at-requires c = omega (arith, (cut c).most, nodes-length c.args.leaves.now)
 
-pub overflow_mul-behind : goal.overflow_mul-behind
-overflow_mul-behind c = omega (arith, (cut c).most, c.requires.0.size, c.requires.1)
+low : (c : After-split_at) → as_nodes c.split_at.result.0.now ≡ take c.split-split.result (as_nodes c.args.leaves.now)
+low c = ap as_nodes c.split_at.ensures.front ∙ nodes-take c.split-split.result c.args.leaves.now
 
-pub slice_bounds-side-end : goal.slice_bounds-side-end
-slice_bounds-side-end c = sym (length-take-le (c.split-m.result * 68) c.args.s.now (omega (arith, (cut (goal.at.slice_bounds-side-end c).After-split-m).most, c.requires.0.size, c.requires.1)))
+high : (c : After-split_at) → as_nodes c.split_at.result.1.now ≡ drop c.split-split.result (as_nodes c.args.leaves.now)
+high c = ap as_nodes c.split_at.ensures.back ∙ nodes-drop c.split-split.result c.args.leaves.now
 
-pub slice_bounds-side-end-2 : goal.slice_bounds-side-end-2
-slice_bounds-side-end-2 c = omega (arith, (cut (goal.at.slice_bounds-side-end-2 c).After-split-m).most, c.requires.0.size, c.requires.1)
+pub side-requires : goal.side-requires
+side-requires c =
+    let d = (goal.at.side-requires c).After-split-split in
+    let e = low (goal.at.side-requires c).After-split_at in
+    (rw e (before-sorted (leaves d) c.requires.0 c.split-split.result), rw e (cut d).left, c.split_at_mut-low_slots.ensures.front_len ∙ sym c.split_at.ensures.front_len)
 
-pub slice_bounds-side-end-3 : goal.slice_bounds-side-end-3
-slice_bounds-side-end-3 c = sym (length-take-le (c.split-m.result * 64) c.args.slots.now (omega (arith, (cut (goal.at.slice_bounds-side-end-3 c).After-split-m).most, c.requires.0.size, c.requires.1)))
-
-pub side-left-requires : goal.side-left-requires
-side-left-requires c =
-    let a = c.args in
-    let m = c.split-m.result in (
-      before-sorted a.n a.s.now c.requires.0 m (cut (goal.at.side-left-requires c).After-split-m).most,
-      (cut (goal.at.side-left-requires c).After-split-m).left,
-      length-take-le (m * 64) a.slots.now (omega (arith, (cut (goal.at.side-left-requires c).After-split-m).most, c.requires.0.size, c.requires.1)),
-    )
-
-pub slice_bounds-side-count : goal.slice_bounds-side-count
-slice_bounds-side-count c = omega (arith, (cut (goal.at.slice_bounds-side-count c).After-split-m).most, c.requires.0.size, c.requires.1)
-
-pub slice_bounds-side-start : goal.slice_bounds-side-start
-slice_bounds-side-start c = omega (arith, (cut (goal.at.slice_bounds-side-start c).After-split-m).most, c.requires.0.size, c.requires.1)
-
-pub overflow_sub-n : goal.overflow_sub-n
-overflow_sub-n c = omega (arith, (cut (goal.at.overflow_sub-n c).After-split-m).most, c.requires.0.size, c.requires.1)
-
-pub slice_bounds-side-count-2 : goal.slice_bounds-side-count-2
-slice_bounds-side-count-2 c = omega (arith, (cut (goal.at.slice_bounds-side-count-2 c).After-split-m).most, c.requires.1, length-first _ _ _ _ _ (over (goal.at.slice_bounds-side-count-2 c).After-side-left))
-
-pub slice_bounds-side-start-2 : goal.slice_bounds-side-start-2
-slice_bounds-side-start-2 c = omega (arith, (cut (goal.at.slice_bounds-side-start-2 c).After-split-m).most, c.requires.1, length-first _ _ _ _ _ (over (goal.at.slice_bounds-side-start-2 c).After-side-left))
-
-pub side-right-requires : goal.side-right-requires
-side-right-requires c =
-    let a = c.args in
-    let m = c.split-m.result in
-    let o = over (goal.at.side-right-requires c).After-side-left in (
-      behind-sorted a.n a.s.now c.requires.0 m (cut (goal.at.side-right-requires c).After-split-m).most,
-      (cut (goal.at.side-right-requires c).After-split-m).right,
-      ap length (old-rest _ _ _ _ _ o) ∙ length-drop (m * 64) a.slots.now ∙ omega (arith, (cut (goal.at.side-right-requires c).After-split-m).most, c.requires.1),
-    )
+pub side-requires-2 : goal.side-requires-2
+side-requires-2 c =
+    let d = (goal.at.side-requires-2 c).After-split-split in
+    let e = high (goal.at.side-requires-2 c).After-split_at in
+    (rw e (behind-sorted (leaves d) c.requires.0 c.split-split.result), rw e (cut d).right, omega (arith, c.split_at_mut-low_slots.ensures.back_len, c.split_at.ensures.back_len, c.requires.1))
 
 pub returns : goal.returns
 returns c =
-    let a = c.args in
-    let m = c.split-m.result in
-    let o = over (goal.at.returns c).After-side-left in
-    let u = c.side-left.new.slots in
-    let v = c.side-right.new.slots in
-    sides-laid a.n a.s.now c.requires.0 m c.split-m.ensures a.slots.now c.side-left.result c.side-right.result u v _ o.left c.side-left.ensures
-    (subst (λ x. SideLaid (leaves_in (a.n - m) (behind m a.s.now)) c.side-right.result x v) (old-rest _ _ _ _ _ o) c.side-right.ensures)
-    (all-is _ _ _ _ _ o v)
+    let d = (goal.at.returns c).After-split-split in
+    let p = (goal.at.returns c).After-split_at in
+    let slots = c.split_at_mut-low_slots.ensures in
+    sides-laid (leaves d) c.split-split.result c.args.slots.now c.side.new.slots c.side-2.new.slots _ c.side.result c.side-2.result c.split-split.ensures
+    (c.side.auto.slots ∙ slots.front_len) (rw (low p, slots.front) at c.side.ensures) (rw (high p, slots.back) at c.side-2.ensures) refl

@@ -1,4 +1,5 @@
 -- `tree_path::has_prefix`: two labels share as many bits as they agree on.
+use native.Mathlib.Omega.{arith}
 use mathlib.Core.Path.{ap, ◌∙◌}
 use lib.Dec.{leb}
 use lib.ListN.{take}
@@ -10,4 +11,4 @@ pub returns : goal.returns
 returns c =
     let a = c.args in
     let e = c.first_difference.ensures ∙ ap (λ x. first_difference (take 32 a.label.now) (take 32 x)) c.label_of.ensures.bytes in
-    ap (leb a.k) e ∙ begins-by a.s.now a.label.now a.k c.requires.0 c.requires.2 c.requires.1
+    ap (leb a.k) e ∙ begins-by a.leaf.now a.label.now a.k (omega (arith, c.told-leaf)) c.told-label c.requires

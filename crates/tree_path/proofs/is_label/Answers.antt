@@ -11,8 +11,8 @@ use Rattle.tree_path.proofs.is_label.Goals as goal
 
 pub returns : goal.returns
 returns c =
-    let s = c.args.s.now in
+    let s = c.args.leaf.now in
     let label = c.args.label.now in
     c.same.ensures ∙ ap (λ x. same x label) c.label_of.ensures.bytes
-    ∙ same-bits (take 32 s) label (all_take _ 32 s (all-at _ s 0 (λ i h. (c.type_inv.s i).fits))) (all-at _ label 0 (λ i h. (c.type_inv.label i).fits))
-    (length-take-le 32 s (omega (arith, c.requires.0)) ∙ sym c.requires.1)
+    ∙ same-bits (take 32 s) label (all_take _ 32 s (all-at _ s 0 (λ i h. c.fits-leaf i))) (all-at _ label 0 (λ i h. c.fits-label i))
+    (length-take-le 32 s (omega (arith, c.told-leaf)) ∙ sym c.told-label)

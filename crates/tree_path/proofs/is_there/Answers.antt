@@ -1,11 +1,13 @@
 -- `tree_path::is_there`: the end is this leaf exactly where the label is there.
-use mathlib.Core.Path.{ap, ◌∙◌}
-use lib.Dec.{eqb}
-use Rattle.tree.proofs.Rising.{all-at}
-use Rattle.tree_path.proofs.There.{label-there}
+use mathlib.Core.Path.{sym, ap, ◌∙◌}
+use Rattle.leaf_row.specs.Row.{as_nodes}
+use Rattle.tree_path.proofs.There.{is_this, label-there, this-not}
 use Rattle.tree_path.proofs.is_there.Goals as goal
 
-pub returns : goal.returns
-returns c =
-    let s = c.args.s.now in
-    ap (λ v. eqb v.kind 0) c.way_of-way.ensures ∙ label-there c.args.n s c.args.label.now c.requires.0 (all-at _ s 0 (λ i h. (c.type_inv.s i).fits)) c.requires.1
+pub returns-in-This : goal.returns-in-This
+returns-in-This c =
+    sym (ap is_this c.in-This.is) ∙ ap (λ v. is_this v.kind) c.way_of.ensures ∙ label-there (as_nodes c.args.leaves.now) c.args.label.now c.requires c.told-label
+
+pub returns-in_default : goal.returns-in_default
+returns-in_default c =
+    sym (this-not c.way_of.result.kind c.in_default.not-This) ∙ ap (λ v. is_this v.kind) c.way_of.ensures ∙ label-there (as_nodes c.args.leaves.now) c.args.label.now c.requires c.told-label

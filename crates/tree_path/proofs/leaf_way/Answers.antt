@@ -7,8 +7,8 @@ use Rattle.tree_path.proofs.leaf_way.Goals as goal
 
 pub returns-then-is_label : goal.returns-then-is_label
 returns-then-is_label c =
-    sym (leaf-way (bits_of c.args.label.now) c.args.s.now true (sym c.is_label.ensures ∙ c.if-is_label.true))
+    c.ended.ensures ∙ sym (leaf-way (bits_of c.args.label.now) c.args.leaf.now true (sym c.is_label.ensures ∙ c.if-is_label.true))
 
 pub returns : goal.returns
 returns c =
-    sym (leaf-way (bits_of c.args.label.now) c.args.s.now false (sym c.is_label.ensures ∙ c.if-is_label.false))
+    c.ended-2.ensures ∙ sym (leaf-way (bits_of c.args.label.now) c.args.leaf.now false (sym c.is_label.ensures ∙ c.if-is_label.false))

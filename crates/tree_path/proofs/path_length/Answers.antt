@@ -6,19 +6,16 @@ use Rattle.paper.specs.Bits.{bits_of}
 use Rattle.paper.specs.Tree.{root}
 use Rattle.paper.specs.Path.{way}
 use Rattle.paper.specs.Fields.{path_field}
-use Rattle.paper.specs.Level.{leaves_in}
 use Rattle.paper.proofs.Fits.{path-fits}
-use Rattle.tree.proofs.Rising.{all-at}
+use Rattle.leaf_row.specs.Row.{as_nodes}
 use Rattle.tree_path.specs.Measured.{end_size}
 use Rattle.tree_path.proofs.Ends.{size-most, path-size}
 use Rattle.tree_path.proofs.There.{way-in-layout}
 use Rattle.tree_path.proofs.path_length.Goals as goal
 use Rattle.tree_path.proofs.path_length.Goals.{After-way_of-way}
 
-fits : (c : After-way_of-way) → path_field.Fits (way (bits_of c.args.label.now) (root (leaves_in c.args.n c.args.s.now)))
-fits c =
-    let a = c.args in
-    way-in-layout a.n a.s.now a.label.now c.requires.0 (all-at _ a.s.now 0 (λ i h. (c.type_inv.s i).fits)) c.requires.1
+fits : (c : After-way_of-way) → path_field.Fits (way (bits_of c.args.label.now) (root (as_nodes c.args.leaves.now)))
+fits c = way-in-layout (as_nodes c.args.leaves.now) c.args.label.now c.requires c.told-label
 
 few : (c : After-way_of-way) → c.way_of-way.result.steps ≤ 256
 few c = omega (arith, ap (λ v. v.steps) c.way_of-way.ensures, (path-fits _ (fits c)).most)
@@ -30,11 +27,10 @@ pub overflow_add-result : goal.overflow_add-result
 overflow_add-result c = omega (arith, few (goal.at.overflow_add-result c).After-way_of-way)
 
 pub overflow_add-result-2 : goal.overflow_add-result-2
-overflow_add-result-2 c = omega (arith, few (goal.at.overflow_add-result-2 c).After-way_of-way, c.end_size.ensures, size-most c.way_of-way.result.kind)
+overflow_add-result-2 c = omega (arith, few (goal.at.overflow_add-result-2 c).After-way_of-way, c.size.ensures, size-most c.way_of-way.result.kind)
 
 pub returns : goal.returns
 returns c =
-    let a = c.args in
     let e = c.way_of-way.ensures in
-    ap (λ x. 3 + c.way_of-way.result.steps * 34 + x) c.end_size.ensures ∙ (λ i. 3 + (e i).steps * 34 + end_size (e i).kind)
-    ∙ sym (path-size (bits_of a.label.now) (root (leaves_in a.n a.s.now)) (fits (goal.at.returns c).After-way_of-way))
+    ap (λ x. 3 + c.way_of-way.result.steps * 34 + x) c.size.ensures ∙ (λ i. 3 + (e i).steps * 34 + end_size (e i).kind)
+    ∙ sym (path-size (bits_of c.args.label.now) (root (as_nodes c.args.leaves.now)) (fits (goal.at.returns c).After-way_of-way))

@@ -1,20 +1,15 @@
--- `words::write16`: the upper and the lower byte are those of the number.
-use borrow.Author.Rules.{rules}
-use native.Mathlib.Omega.{arith}
-use mathlib.Core.Path.{ap, ◌∙◌}
-use Prim.Native.Nat.{◌+◌, ◌/◌, ◌%◌}
-use lib.ListN.{set, length-set}
-use Rattle.paper.specs.Bytes.{pasted, be}
-use Rattle.words.proofs.Number.{pasted-byte, pasted-halves}
+-- `words::write16`: the number's bytes lie over the part.
+use Rattle.std.proofs.Common.{◌+◌, ◌-◌, arith, sym, ◌∙◌}
+use Rattle.std.proofs.lemmas.Slice.{put_mid-paste}
+use Rattle.paper.specs.Bytes.{be}
+use Rattle.paper.proofs.Bytes.{be-length}
+use Rattle.paper.proofs.Pasted.{paste_all}
+use Rattle.words.proofs.Number.{bytes-two}
 use Rattle.words.proofs.write16.Goals as goal
-
-pub bounds-dst-at-2 : goal.bounds-dst-at-2
-bounds-dst-at-2 c = simp length-set (omega arith)
 
 pub returns : goal.returns
 returns c =
     let a = c.args in
-    let d = a.dst.now in
-    pasted-byte (set d a.at (a.n / 256)) (a.at + 1) (a.n % 256) (simp length-set (omega arith))
-    ∙ ap (λ l. pasted l (a.at + 1) (be 1 (a.n % 256))) (pasted-byte d a.at (a.n / 256) (omega arith))
-    ∙ pasted-halves d a.at 1 1 a.n (omega arith) (search rules)
+    let e = sym (be-length 2 a.n) in
+    put_mid-paste a.at (a.at + 2 - a.at) a.dst.now _ (be 2 a.n) 2 (c.copy_from_slice.ensures.after ∙ c.to_be_bytes.ensures ∙ bytes-two a.n (omega arith)) (omega arith) e
+    ∙ paste_all a.dst.now a.at (be 2 a.n) 2 e

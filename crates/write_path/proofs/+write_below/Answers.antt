@@ -1,241 +1,208 @@
 -- `write_path::write_below`: at a leaf and at a fork whose prefix the label has not, the end; otherwise a step with the digest of the other
 -- side, and the way on the label's side behind it. What is left of 256 bits falls.
 use native.Mathlib.Omega.{arith}
-use mathlib.Core.Path.{◌≡◌, refl, sym, ap, ◌∙◌, subst}
+use mathlib.Core.Path.{◌≡◌, refl, sym, ap, ap₂, ◌∙◌, subst}
 use mathlib.Core.Bool.{Bool, true, false, cond}
-use mathlib.Core.List.{◌∷◌, ◌++◌}
-use Prim.Native.Nat.{ℕ, ◌+◌, ◌-◌, ◌*◌}
-use lib.ListN.{length, take, drop}
+use mathlib.Core.List.{List, [], ◌∷◌, ◌++◌}
+use Prim.Native.Nat.{ℕ, ◌-◌}
+use lib.ListN.{length, take, drop, get_or, length-append}
 use lib.Seq.{length-take-le}
-use borrow.Author.Tests.{not-true, not-false}
-use Rattle.paper.specs.Bits.{Bits, bits_of}
-use Rattle.paper.specs.Strings.{node_string}
+use Rattle.paper.specs.Bits.{Bits, starts, bits_of}
+use Rattle.paper.specs.Strings.{Node, nothing, node_string}
 use Rattle.paper.specs.Tree.{key, digest, Tree, top, build}
 use Rattle.paper.specs.Path.{end_at}
 use Rattle.paper.specs.Fields.{step_field}
-use Rattle.paper.specs.Level.{entry_leaf, leaves_in}
+use Rattle.paper.specs.Level.{entry_leaf}
 use Rattle.paper.proofs.Fits.{digest-wide}
+use Rattle.leaf_row.specs.Row.{as_nodes}
+use Rattle.leaf_row.proofs.Rows.{nodes-length, node_at, nodes-take, nodes-drop}
+use Rattle.tree.specs.Stored.{children, flat}
+use Rattle.tree.specs.declared.Children.{Children}
 use Rattle.tree.proofs.Leaves.{single}
-use Rattle.tree.proofs.Slots.{slot-wide}
-use Rattle.tree.proofs.Halves.{before, behind, Halves, halves, before-sorted, behind-sorted}
-use Rattle.tree.proofs.Flat.{slots-size, low-slots, the-slot, high-slots, low-digest, high-digest}
+use Rattle.tree.proofs.Halves.{Halves, halves, taken, build-taken, taken-part}
+use Rattle.tree.proofs.Flat.{slots-size, the-slot, inside-taken}
 use Rattle.tree_path.specs.Measured.{node_bytes, end_bytes, way_bytes}
 use Rattle.path_fields.specs.Written.{Wrote}
-use Rattle.tree_path.proofs.Ways.{one-bytes, off-bytes, turn-bytes, prefix-size}
+use Rattle.tree_path.proofs.Ways.{one-bytes, off-bytes, turn-bytes, fork-prefix}
 use Rattle.tree_path.proofs.Ends as E
 use Rattle.write_path.proofs.Laid.{step_room, way-room, way-wrote}
 use Rattle.write_path.proofs.+write_below.Goals as goal
-use Rattle.write_path.proofs.+write_below.Goals.{After-fork_of-fork, After-label_bit-right, After-write_step-next, Then-not-has_prefix}
+use Rattle.write_path.proofs.+write_below.Goals.{Then-leaves-eq1, After-fork_of-length, After-has_prefix, Then-not-has_prefix, After-label_bit-right, After-write_step-next, Joined-right-2, then-right, else-right, then-right-2, else-right-2}
+
+-- a single leaf
+alone : (t : ℕ) (c : Then-leaves-eq1 t) → way_bytes (bits_of c.args.label.now) (build 256 (as_nodes c.args.leaves.now)) ≡ end_bytes (end_at (bits_of c.args.label.now) (entry_leaf (get_or c.args.leaves.now 0 [])))
+alone t c =
+    let row = c.args.leaves.now in
+    let L = bits_of c.args.label.now in
+    let h : length row ≡ 1 = c.if-leaves-eq1.true in
+    ap (way_bytes L) (single (as_nodes row) (nodes-length row ∙ h)) ∙ one-bytes L _ ∙ ap (λ x. end_bytes (end_at L x)) (node_at row 0 (omega arith))
 
 pub write_leaf-requires : goal.write_leaf-requires
-write_leaf-requires t c =
-    let a = c.args in
-    let e = c.if-n-eq1.true in
-    let q : way_bytes (bits_of a.label.now) (build 256 (leaves_in a.n a.s.now)) ≡ end_bytes (end_at (bits_of a.label.now) (entry_leaf a.s.now)) =
-    ap (way_bytes (bits_of a.label.now)) (single a.n a.s.now e) ∙ one-bytes (bits_of a.label.now) (entry_leaf a.s.now) in
-    (omega (arith, c.requires.0.sorted.size), c.requires.2, omega (arith, c.requires.3, ap length q))
+write_leaf-requires t c = omega (arith, c.requires.2, ap length (alone t (goal.at.write_leaf-requires t c).Then-leaves-eq1))
 
-pub shape_of-out-then-n-eq1 : goal.shape_of-out-then-n-eq1
-shape_of-out-then-n-eq1 t c = c.write_leaf.auto.out
+pub returns-then-leaves-eq1 : goal.returns-then-leaves-eq1
+returns-then-leaves-eq1 t c =
+    subst (λ x. Wrote c.args.out.now c.args.at x c.write_leaf.new.out c.write_leaf.result) (sym (alone t (goal.at.returns-then-leaves-eq1 t c).Then-leaves-eq1)) c.write_leaf.ensures
 
-pub returns-then-n-eq1 : goal.returns-then-n-eq1
-returns-then-n-eq1 t c =
-    let a = c.args in
-    let q : way_bytes (bits_of a.label.now) (build 256 (leaves_in a.n a.s.now)) ≡ end_bytes (end_at (bits_of a.label.now) (entry_leaf a.s.now)) =
-    ap (way_bytes (bits_of a.label.now)) (single a.n a.s.now c.if-n-eq1.true) ∙ one-bytes (bits_of a.label.now) (entry_leaf a.s.now) in
-    subst (λ x. Wrote a.out.now a.at x c.write_leaf.new.out c.write_leaf.result) (sym q) c.write_leaf.ensures
-
-pub fork_of-fork-requires : goal.fork_of-fork-requires
-fork_of-fork-requires t c = (omega (arith, c.requires.0.some), c.requires.0.sorted)
+pub fork_of-length-requires : goal.fork_of-length-requires
+fork_of-length-requires t c = (omega (arith, c.requires.0.some, nodes-length c.args.leaves.now), c.requires.0.sorted)
 
 -- how many bits the leaves share, and how many of them go left
-abbrev bits : (t : ℕ) → After-fork_of-fork t → ℕ
-bits t c = c.fork_of-fork.result.length
+abbrev bits : (t : ℕ) → After-fork_of-length t → ℕ
+bits t c = c.fork_of-length.result.length
 
-abbrev left : (t : ℕ) → After-fork_of-fork t → ℕ
-left t c = c.fork_of-fork.result.left
+abbrev left : (t : ℕ) → After-fork_of-length t → ℕ
+left t c = c.fork_of-length.result.left
 
-cut : (t : ℕ) (c : After-fork_of-fork t) → Halves c.args.n c.args.from c.args.s.now (bits t c) (left t c)
+abbrev leaves : (t : ℕ) → After-fork_of-length t → List Node
+leaves t c = as_nodes c.args.leaves.now
+
+cut : (t : ℕ) (c : After-fork_of-length t) → Halves c.args.from (leaves t c) (bits t c) (left t c)
 cut t c =
-    let a = c.args in
     let h = c.requires.0 in
-    halves a.n a.from a.s.now (bits t c) (left t c) h.sorted h.deep h.range c.fork_of-fork.ensures
+    halves c.args.from (leaves t c) (bits t c) (left t c) h.sorted h.deep h.range c.fork_of-length.ensures
 
-slotted : (t : ℕ) (c : After-fork_of-fork t) → length c.args.slots.now ≡ (c.args.n - 1) * 64
-slotted t c =
-    let a = c.args in
-    slots-size a.n a.from a.s.now (bits t c) (left t c) c.requires.0.sorted (cut t c) a.slots.now c.requires.1
+slotted : (t : ℕ) (c : After-fork_of-length t) → length c.args.slots.now ≡ length (leaves t c) - 1
+slotted t c = slots-size c.args.from (leaves t c) (bits t c) (left t c) c.requires.0.sorted (cut t c) c.args.slots.now c.requires.1
 
-abbrev prefix : (t : ℕ) → After-fork_of-fork t → Bits
-prefix t c = take (bits t c) (key (entry_leaf c.args.s.now))
-
-size : (t : ℕ) (c : After-fork_of-fork t) → length (prefix t c) ≡ bits t c
-size t c = let h = cut t c in prefix-size c.args.s.now (bits t c) (omega (arith, h.less, c.requires.0.sorted.size)) (omega (arith, h.small))
-
--- the label, the tree, and its two sides
-abbrev label : (t : ℕ) → After-fork_of-fork t → Bits
+-- the label, the tree, the prefix, and the two sides
+abbrev label : (t : ℕ) → After-fork_of-length t → Bits
 label t c = bits_of c.args.label.now
 
-abbrev whole : (t : ℕ) → After-fork_of-fork t → Tree
-whole t c = build 256 (leaves_in c.args.n c.args.s.now)
+abbrev whole : (t : ℕ) → After-fork_of-length t → Tree
+whole t c = build 256 (leaves t c)
 
-abbrev low : (t : ℕ) → After-fork_of-fork t → Tree
-low t c = build 256 (leaves_in (left t c) (before (left t c) c.args.s.now))
+abbrev prefix : (t : ℕ) → After-fork_of-length t → Bits
+prefix t c = take (bits t c) (key (get_or (leaves t c) 0 nothing))
 
-abbrev high : (t : ℕ) → After-fork_of-fork t → Tree
-high t c = build 256 (leaves_in (c.args.n - left t c) (behind (left t c) c.args.s.now))
+abbrev low : (t : ℕ) → After-fork_of-length t → Tree
+low t c = build 256 (take (left t c) (leaves t c))
 
-pub overflow_sub-slot : goal.overflow_sub-slot
-overflow_sub-slot t c = let h = cut t c in omega (arith, h.small, h.least, h.less, c.requires.0.sorted.size, slotted t c)
+abbrev high : (t : ℕ) → After-fork_of-length t → Tree
+high t c = build 256 (drop (left t c) (leaves t c))
 
-pub overflow_mul-slot : goal.overflow_mul-slot
-overflow_mul-slot t c = let h = cut t c in omega (arith, h.small, h.least, h.less, c.requires.0.sorted.size, slotted t c)
+size : (t : ℕ) (c : After-fork_of-length t) → length (prefix t c) ≡ bits t c
+size t c = fork-prefix (leaves t c) (bits t c) c.requires.0.sorted c.requires.0.some (omega (arith, (cut t c).small))
 
-pub overflow_mul-behind : goal.overflow_mul-behind
-overflow_mul-behind t c = let h = cut t c in omega (arith, h.small, h.least, h.less, c.requires.0.sorted.size, slotted t c)
+first : (t : ℕ) (c : After-fork_of-length t) → get_or (leaves t c) 0 nothing ≡ entry_leaf (get_or c.args.leaves.now 0 [])
+first t c = node_at c.args.leaves.now 0 (omega (arith, c.requires.0.some, nodes-length c.args.leaves.now))
 
-pub has_prefix-requires : goal.has_prefix-requires
-has_prefix-requires t c = let h = cut t c in (omega (arith, h.less, c.requires.0.sorted.size), omega (arith, h.small), c.requires.2)
+pub bounds-slots-left : goal.bounds-slots-left
+bounds-slots-left t c = let h = cut t c in omega (arith, h.least, h.less, slotted t c)
 
-pub slice_bounds-write_node-count : goal.slice_bounds-write_node-count
-slice_bounds-write_node-count t c = let h = cut t (goal.at.slice_bounds-write_node-count t c).After-fork_of-fork in omega (arith, h.small, h.least, h.less, c.requires.0.sorted.size, slotted t (goal.at.slice_bounds-write_node-count t c).After-fork_of-fork)
+-- the slot
+slot : (t : ℕ) (c : After-fork_of-length t) (d : Children) → get_or c.args.slots.now (left t c - 1) d ≡ children (low t c) (high t c)
+slot t c d = the-slot c.args.from (leaves t c) (bits t c) (left t c) c.requires.0.sorted (cut t c) c.args.slots.now c.requires.1 d
 
-pub slice_bounds-write_node-start : goal.slice_bounds-write_node-start
-slice_bounds-write_node-start t c = let h = cut t (goal.at.slice_bounds-write_node-start t c).After-fork_of-fork in omega (arith, h.small, h.least, h.less, c.requires.0.sorted.size, slotted t (goal.at.slice_bounds-write_node-start t c).After-fork_of-fork)
-
-pub slice_bounds-write_node-end : goal.slice_bounds-write_node-end
-slice_bounds-write_node-end t c = let h = cut t (goal.at.slice_bounds-write_node-end t c).After-fork_of-fork in omega (arith, h.small, h.least, h.less, c.requires.0.sorted.size, slotted t (goal.at.slice_bounds-write_node-end t c).After-fork_of-fork)
+begins : (t : ℕ) (c : After-has_prefix t) → c.has_prefix.result ≡ starts (prefix t (goal.at.After-has_prefix t c).After-fork_of-length) (bits_of c.args.label.now)
+begins t c =
+    let d = (goal.at.After-has_prefix t c).After-fork_of-length in
+    c.has_prefix.ensures ∙ ap (λ x. starts (take (bits t d) (key x)) (bits_of c.args.label.now)) (sym (first t d))
 
 -- the label has not the prefix
-off-way : (t : ℕ) (c : Then-not-has_prefix t)
-    → way_bytes (label t (goal.at.Then-not-has_prefix t c).After-fork_of-fork) (whole t (goal.at.Then-not-has_prefix t c).After-fork_of-fork) ≡ 2 ∷ node_bytes (prefix t (goal.at.Then-not-has_prefix t c).After-fork_of-fork) (digest (top (low t (goal.at.Then-not-has_prefix t c).After-fork_of-fork)) ++ digest (top (high t (goal.at.Then-not-has_prefix t c).After-fork_of-fork)))
+off-way : (t : ℕ) (c : Then-not-has_prefix t) → let d = (goal.at.Then-not-has_prefix t c).After-fork_of-length in
+    way_bytes (label t d) (whole t d) ≡ 2 ∷ node_bytes (prefix t d) (digest (top (low t d)) ++ digest (top (high t d)))
 off-way t c =
-    off-bytes (label t (goal.at.Then-not-has_prefix t c).After-fork_of-fork) _ _ _ _ (cut t (goal.at.Then-not-has_prefix t c).After-fork_of-fork).tree (sym c.has_prefix.ensures ∙ not-true _ c.if-not-has_prefix.true-raw) ∙ E.off-bytes (prefix t (goal.at.Then-not-has_prefix t c).After-fork_of-fork) _ _
-
-slot : (t : ℕ) (c : After-fork_of-fork t)
-    → take (left t c * 64 - (left t c - 1) * 64) (drop ((left t c - 1) * 64) c.args.slots.now) ≡ digest (top (low t c)) ++ digest (top (high t c))
-slot t c =
-    let a = c.args in
-    let e : left t c * 64 - (left t c - 1) * 64 ≡ 64 = omega (arith, (cut t c).least) in
-    ap (λ i. take i (drop ((left t c - 1) * 64) a.slots.now)) e
-    ∙ the-slot a.n a.from a.s.now (bits t c) (left t c) c.requires.0.sorted (cut t c) a.slots.now c.requires.1
+    let d = (goal.at.Then-not-has_prefix t c).After-fork_of-length in
+    off-bytes (label t d) _ _ _ _ (cut t d).tree (sym (begins t (goal.at.Then-not-has_prefix t c).After-has_prefix) ∙ c.if-not-has_prefix.true) ∙ E.off-bytes (prefix t d) _ _
 
 pub write_node-requires : goal.write_node-requires
 write_node-requires t c =
-    let h = cut t (goal.at.write_node-requires t c).After-fork_of-fork in
-    let l = slot-wide (low t (goal.at.write_node-requires t c).After-fork_of-fork) (high t (goal.at.write_node-requires t c).After-fork_of-fork) in (
-      omega (arith, h.less, c.requires.0.sorted.size),
-      omega (arith, h.small),
-      ap length (slot t (goal.at.write_node-requires t c).After-fork_of-fork) ∙ l,
-      omega (arith, c.requires.3, ap length (off-way t (goal.at.write_node-requires t c).Then-not-has_prefix), E.node-long (prefix t (goal.at.write_node-requires t c).After-fork_of-fork) (digest (top (low t (goal.at.write_node-requires t c).After-fork_of-fork)) ++ digest (top (high t (goal.at.write_node-requires t c).After-fork_of-fork))), l),
+    let d = (goal.at.write_node-requires t c).After-fork_of-length in
+    let x = digest (top (low t d)) in
+    let y = digest (top (high t d)) in
+    let wide : (u : Tree) → length (digest (top u)) ≡ 32 = λ u. (digest-wide (node_string (top u))).size in (
+      omega (arith, (cut t d).small),
+      omega (arith, c.requires.2, ap length (off-way t (goal.at.write_node-requires t c).Then-not-has_prefix), E.node-long (prefix t d) (x ++ y), length-append x y, wide (low t d), wide (high t d)),
     )
-
-pub shape_of-out-then-not-has_prefix : goal.shape_of-out-then-not-has_prefix
-shape_of-out-then-not-has_prefix t c = c.write_node.auto.out
 
 pub returns-then-not-has_prefix : goal.returns-then-not-has_prefix
 returns-then-not-has_prefix t c =
-    let a = c.args in
-    let q = ap (λ d. 2 ∷ node_bytes (prefix t (goal.at.returns-then-not-has_prefix t c).After-fork_of-fork) d) (slot t (goal.at.returns-then-not-has_prefix t c).After-fork_of-fork) ∙ sym (off-way t (goal.at.returns-then-not-has_prefix t c).Then-not-has_prefix) in
-    subst (λ z. Wrote a.out.now a.at z c.write_node.new.out c.write_node.result) q c.write_node.ensures
+    let d = (goal.at.returns-then-not-has_prefix t c).After-fork_of-length in
+    let f = λ (k : ℕ) (x : Node) (s : Children). k ∷ node_bytes (take (bits t d) (key x)) (s.left ++ s.right) in
+    let q = ap (λ k. f k (entry_leaf (get_or c.args.leaves.now 0 [])) (get_or c.args.slots.now (left t d - 1) (record { left = []; right = [] }))) c.number.ensures
+    ∙ ap₂ (f 2) (sym (first t d)) (slot t d (record { left = []; right = [] })) ∙ sym (off-way t (goal.at.returns-then-not-has_prefix t c).Then-not-has_prefix) in
+    subst (λ z. Wrote c.args.out.now c.args.at z c.write_node.new.out c.write_node.result) q c.write_node.ensures
 
 -- it has the prefix, and goes down on the side of its bit
-turned : (t : ℕ) (c : After-label_bit-right t) (b : Bool) → c.label_bit-right.result ≡ b
-    → way_bytes (label t (goal.at.After-label_bit-right t c).After-fork_of-fork) (whole t (goal.at.After-label_bit-right t c).After-fork_of-fork) ≡ step_field.bytes (record { length = bits t (goal.at.After-label_bit-right t c).After-fork_of-fork; sibling = digest (top (cond b (low t (goal.at.After-label_bit-right t c).After-fork_of-fork) (high t (goal.at.After-label_bit-right t c).After-fork_of-fork))) }) ++ way_bytes (label t (goal.at.After-label_bit-right t c).After-fork_of-fork) (cond b (high t (goal.at.After-label_bit-right t c).After-fork_of-fork) (low t (goal.at.After-label_bit-right t c).After-fork_of-fork))
-turned t c b e =
-    let begun = sym c.has_prefix.ensures ∙ not-false _ c.if-not-has_prefix.false-raw in
-    turn-bytes (label t (goal.at.After-label_bit-right t c).After-fork_of-fork) _ _ _ _ (cut t (goal.at.After-label_bit-right t c).After-fork_of-fork).tree (bits t (goal.at.After-label_bit-right t c).After-fork_of-fork) (size t (goal.at.After-label_bit-right t c).After-fork_of-fork) begun b (sym c.label_bit-right.ensures ∙ e)
-
-sibling : (t : ℕ) (w : After-fork_of-fork t) (b : Bool) → take 32 (drop (cond b ((left t w - 1) * 64) ((left t w - 1) * 64 + 32)) w.args.slots.now) ≡ digest (top (cond b (low t w) (high t w)))
-sibling t w true = low-digest w.args.n w.args.from w.args.s.now (bits t w) (left t w) w.requires.0.sorted (cut t w) w.args.slots.now w.requires.1
-sibling t w false = high-digest w.args.n w.args.from w.args.s.now (bits t w) (left t w) w.requires.0.sorted (cut t w) w.args.slots.now w.requires.1
-
-pub sibling_in-requires : goal.sibling_in-requires
-sibling_in-requires t c = let h = cut t (goal.at.sibling_in-requires t c).After-fork_of-fork in omega (arith, h.small, h.least, h.less, c.requires.0.sorted.size, slotted t (goal.at.sibling_in-requires t c).After-fork_of-fork)
+turned : (t : ℕ) (c : After-label_bit-right t) → let d = (goal.at.After-label_bit-right t c).After-fork_of-length in let b = c.label_bit-right.result in
+    way_bytes (label t d) (whole t d) ≡ step_field.bytes (record { length = bits t d; sibling = digest (top (cond b (low t d) (high t d))) }) ++ way_bytes (label t d) (cond b (high t d) (low t d))
+turned t c =
+    let d = (goal.at.After-label_bit-right t c).After-fork_of-length in
+    turn-bytes (label t d) _ _ _ _ (cut t d).tree (bits t d) (size t d) (sym (begins t (goal.at.After-label_bit-right t c).After-has_prefix) ∙ c.if-not-has_prefix.false) c.label_bit-right.result (sym c.label_bit-right.ensures)
 
 pub write_step-next-requires : goal.write_step-next-requires
 write_step-next-requires t c =
+    let d = (goal.at.write_step-next-requires t c).After-fork_of-length in
     let b = c.label_bit-right.result in
-    (omega (arith, c.requires.3, step_room (label t (goal.at.write_step-next-requires t c).After-fork_of-fork) (whole t (goal.at.write_step-next-requires t c).After-fork_of-fork) (cond b (high t (goal.at.write_step-next-requires t c).After-fork_of-fork) (low t (goal.at.write_step-next-requires t c).After-fork_of-fork)) (bits t (goal.at.write_step-next-requires t c).After-fork_of-fork) (digest (top (cond b (low t (goal.at.write_step-next-requires t c).After-fork_of-fork) (high t (goal.at.write_step-next-requires t c).After-fork_of-fork)))) (turned t (goal.at.write_step-next-requires t c).After-label_bit-right b refl) (digest-wide (node_string (top (cond b (low t (goal.at.write_step-next-requires t c).After-fork_of-fork) (high t (goal.at.write_step-next-requires t c).After-fork_of-fork))))).size), omega (arith, (cut t (goal.at.write_step-next-requires t c).After-fork_of-fork).small))
+    (omega (arith, c.requires.2, step_room (label t d) (whole t d) (cond b (high t d) (low t d)) (bits t d) (digest (top (cond b (low t d) (high t d)))) (turned t (goal.at.write_step-next-requires t c).After-label_bit-right) (digest-wide (node_string (top (cond b (low t d) (high t d))))).size), omega (arith, (cut t d).small))
 
--- the step, and what is behind it
-step : (t : ℕ) (c : After-write_step-next t) (b : Bool) → c.label_bit-right.result ≡ b
-    → Wrote c.args.out.now c.args.at (step_field.bytes (record { length = bits t (goal.at.After-write_step-next t c).After-fork_of-fork; sibling = digest (top (cond b (low t (goal.at.After-write_step-next t c).After-fork_of-fork) (high t (goal.at.After-write_step-next t c).After-fork_of-fork))) })) c.write_step-next.new.out c.write_step-next.result
-step t c b e =
-    let slot = (left t (goal.at.After-write_step-next t c).After-fork_of-fork - 1) * 64 in
-    let q = c.sibling_in.ensures ∙ ap (λ x. take 32 (drop (cond x slot (slot + 32)) c.args.slots.now)) e ∙ sibling t (goal.at.After-write_step-next t c).After-fork_of-fork b in
-    subst (λ y. Wrote c.args.out.now c.args.at (step_field.bytes (record { length = bits t (goal.at.After-write_step-next t c).After-fork_of-fork; sibling = y })) c.write_step-next.new.out c.write_step-next.result) q c.write_step-next.ensures
+sibling : (b : Bool) (l r : Tree) → cond b (digest (top l)) (digest (top r)) ≡ digest (top (cond b l r))
+sibling true l r = refl
+sibling false l r = refl
 
-pub overflow_mul-middle : goal.overflow_mul-middle
-overflow_mul-middle t c = let h = cut t (goal.at.overflow_mul-middle t c).After-fork_of-fork in omega (arith, h.small, h.least, h.less, c.requires.0.sorted.size, slotted t (goal.at.overflow_mul-middle t c).After-fork_of-fork)
+-- the step, as it was written
+step : (t : ℕ) (c : After-write_step-next t) → let d = (goal.at.After-write_step-next t c).After-fork_of-length in
+    Wrote c.args.out.now c.args.at (step_field.bytes (record { length = bits t d; sibling = digest (top (cond c.label_bit-right.result (low t d) (high t d))) })) c.write_step-next.new.out c.write_step-next.result
+step t c =
+    let d = (goal.at.After-write_step-next t c).After-fork_of-length in
+    let b = c.label_bit-right.result in
+    let e = c.sibling.ensures ∙ ap (λ (s : Children). cond b s.left s.right) (slot t d (record { left = []; right = [] })) ∙ sibling b (low t d) (high t d) in
+    subst (λ y. Wrote c.args.out.now c.args.at (step_field.bytes (record { length = bits t d; sibling = y })) c.write_step-next.new.out c.write_step-next.result) e c.write_step-next.ensures
 
-pub slice_bounds-write_below-count : goal.slice_bounds-write_below-count
-slice_bounds-write_below-count t c = let h = cut t (goal.at.slice_bounds-write_below-count t c).After-fork_of-fork in omega (arith, h.small, h.least, h.less, c.requires.0.sorted.size, slotted t (goal.at.slice_bounds-write_below-count t c).After-fork_of-fork)
+pub split_at-requires : goal.split_at-requires
+split_at-requires t c = omega (arith, (cut t (goal.at.split_at-requires t c).After-fork_of-length).less, nodes-length c.args.leaves.now)
 
-pub slice_bounds-write_below-start : goal.slice_bounds-write_below-start
-slice_bounds-write_below-start t c = let h = cut t (goal.at.slice_bounds-write_below-start t c).After-fork_of-fork in omega (arith, h.small, h.least, h.less, c.requires.0.sorted.size, slotted t (goal.at.slice_bounds-write_below-start t c).After-fork_of-fork)
+pub slice_bounds-low_slots-length : goal.slice_bounds-low_slots-length
+slice_bounds-low_slots-length t c =
+    let d = (goal.at.slice_bounds-low_slots-length t c).After-fork_of-length in
+    sym (length-take-le _ _ (omega (arith, (cut t d).less, slotted t d)))
 
-pub overflow_sub-n : goal.overflow_sub-n
-overflow_sub-n t c = let h = cut t (goal.at.overflow_sub-n t c).After-fork_of-fork in omega (arith, h.small, h.least, h.less, c.requires.0.sorted.size, slotted t (goal.at.overflow_sub-n t c).After-fork_of-fork)
+pub slice_bounds-high_slots-count : goal.slice_bounds-high_slots-count
+slice_bounds-high_slots-count t c = let d = (goal.at.slice_bounds-high_slots-count t c).After-fork_of-length in omega (arith, (cut t d).less, slotted t d)
 
-pub overflow_add-k : goal.overflow_add-k
-overflow_add-k t c = let h = cut t (goal.at.overflow_add-k t c).After-fork_of-fork in omega (arith, h.small, h.least, h.less, c.requires.0.sorted.size, slotted t (goal.at.overflow_add-k t c).After-fork_of-fork)
+pub slice_bounds-high_slots-start : goal.slice_bounds-high_slots-start
+slice_bounds-high_slots-start t c = let d = (goal.at.slice_bounds-high_slots-start t c).After-fork_of-length in omega (arith, (cut t d).less, slotted t d)
 
-pub slice_bounds-write_below-count-then-right : goal.slice_bounds-write_below-count-then-right
-slice_bounds-write_below-count-then-right t c = let h = cut t (goal.at.slice_bounds-write_below-count-then-right t c).After-fork_of-fork in omega (arith, h.small, h.least, h.less, c.requires.0.sorted.size, slotted t (goal.at.slice_bounds-write_below-count-then-right t c).After-fork_of-fork)
+side-is : (t : ℕ) (c : Joined-right-2 t) → let d = (goal.at.Joined-right-2 t c).After-fork_of-length in as_nodes c.if-right.taken.now ≡ taken c.label_bit-right.result (left t d) (leaves t d)
+side-is t c =
+    let d = (goal.at.Joined-right-2 t c).After-fork_of-length in
+    let at = λ (b : Bool). taken b (left t d) (leaves t d) in
+    elim c.if-right.branch [
+      | then-right w ↦ ap (λ r. as_nodes r.now) w.taken-is ∙ ap as_nodes c.split_at.ensures.back ∙ nodes-drop (left t d) c.args.leaves.now ∙ ap at (sym w.if-right.true)
+      | else-right w ↦ ap (λ r. as_nodes r.now) w.taken-is ∙ ap as_nodes c.split_at.ensures.front ∙ nodes-take (left t d) c.args.leaves.now ∙ ap at (sym w.if-right.false)
+    ]
 
-pub slice_bounds-write_below-start-then-right : goal.slice_bounds-write_below-start-then-right
-slice_bounds-write_below-start-then-right t c = let h = cut t (goal.at.slice_bounds-write_below-start-then-right t c).After-fork_of-fork in omega (arith, h.small, h.least, h.less, c.requires.0.sorted.size, slotted t (goal.at.slice_bounds-write_below-start-then-right t c).After-fork_of-fork)
+inside-is : (t : ℕ) (c : Joined-right-2 t) → let d = (goal.at.Joined-right-2 t c).After-fork_of-length in let s = c.args.slots.now in
+    c.if-right-2.inside.now ≡ cond c.label_bit-right.result (take (length s - left t d) (drop (left t d) s)) (take (left t d - 1) s)
+inside-is t c =
+    let d = (goal.at.Joined-right-2 t c).After-fork_of-length in
+    let s = c.args.slots.now in
+    let at = λ (b : Bool). cond b (take (length s - left t d) (drop (left t d) s)) (take (left t d - 1) s) in
+    elim c.if-right-2.branch [
+      | then-right-2 w ↦ ap (λ r. r.now) w.inside-is ∙ ap at (sym w.if-right-2.true)
+      | else-right-2 w ↦ ap (λ r. r.now) w.inside-is ∙ ap at (sym w.if-right-2.false)
+    ]
 
 pub write_below-requires : goal.write_below-requires
 write_below-requires t c =
-    let a = c.args in
-    let h = cut t (goal.at.write_below-requires t c).After-fork_of-fork in
-    let q = c.decreases in (
-      omega (arith, q, h.deeper, h.small),
+    let d = (goal.at.write_below-requires t c).After-fork_of-length in
+    let j = (goal.at.write_below-requires t c).Joined-right-2 in
+    let b = c.label_bit-right.result in
+    let h = cut t d in
+    let e : build 256 (as_nodes c.if-right.taken.now) ≡ cond b (high t d) (low t d) = ap (build 256) (side-is t j) ∙ build-taken b (left t d) (leaves t d) in (
+      omega (arith, c.decreases, h.deeper, h.small),
       (
-        record { some = omega (arith, h.less); deep = omega arith; sorted = behind-sorted a.n a.s.now c.requires.0.sorted (left t (goal.at.write_below-requires t c).After-fork_of-fork) (omega (arith, h.less)); range = h.right },
-        high-slots a.n a.from a.s.now (bits t (goal.at.write_below-requires t c).After-fork_of-fork) (left t (goal.at.write_below-requires t c).After-fork_of-fork) c.requires.0.sorted h a.slots.now c.requires.1,
-        c.requires.2,
-        omega (arith, c.write_step-next.auto.out, way-room (label t (goal.at.write_below-requires t c).After-fork_of-fork) (whole t (goal.at.write_below-requires t c).After-fork_of-fork) (high t (goal.at.write_below-requires t c).After-fork_of-fork) (bits t (goal.at.write_below-requires t c).After-fork_of-fork) _ (turned t (goal.at.write_below-requires t c).After-label_bit-right true c.if-right.true) a.out.now _ a.at _ c.requires.3 (step t (goal.at.write_below-requires t c).After-write_step-next true c.if-right.true)),
+        rw (side-is t j) (taken-part c.requires.0.sorted h b),
+        inside-is t j ∙ inside-taken c.args.from (leaves t d) (bits t d) (left t d) c.requires.0.sorted h c.args.slots.now c.requires.1 b ∙ ap (λ S. flat (build 256 S)) (sym (side-is t j)),
+        rw e (omega (arith, c.write_step-next.auto.out, way-room (label t d) (whole t d) (cond b (high t d) (low t d)) (bits t d) _ (turned t (goal.at.write_below-requires t c).After-label_bit-right) c.args.out.now _ c.args.at _ c.requires.2 (step t (goal.at.write_below-requires t c).After-write_step-next))),
       ),
     )
-
-pub shape_of-out-then-right : goal.shape_of-out-then-right
-shape_of-out-then-right t c = c.write_below.auto.out ∙ c.write_step-next.auto.out
-
-pub returns-then-right : goal.returns-then-right
-returns-then-right t c =
-    let a = c.args in
-    way-wrote (label t (goal.at.returns-then-right t c).After-fork_of-fork) (whole t (goal.at.returns-then-right t c).After-fork_of-fork) (high t (goal.at.returns-then-right t c).After-fork_of-fork) (bits t (goal.at.returns-then-right t c).After-fork_of-fork) _ (turned t (goal.at.returns-then-right t c).After-label_bit-right true c.if-right.true) a.out.now _ a.at _ c.requires.3 (step t (goal.at.returns-then-right t c).After-write_step-next true c.if-right.true) _ _ c.write_below.ensures
-
-pub slice_bounds-write_below-end-2 : goal.slice_bounds-write_below-end-2
-slice_bounds-write_below-end-2 t c = let h = cut t (goal.at.slice_bounds-write_below-end-2 t c).After-fork_of-fork in sym (length-take-le (left t (goal.at.slice_bounds-write_below-end-2 t c).After-fork_of-fork * 68) c.args.s.now (omega (arith, h.small, h.least, h.less, c.requires.0.sorted.size, slotted t (goal.at.slice_bounds-write_below-end-2 t c).After-fork_of-fork)))
-
-pub overflow_add-k-2 : goal.overflow_add-k-2
-overflow_add-k-2 t c = let h = cut t (goal.at.overflow_add-k-2 t c).After-fork_of-fork in omega (arith, h.small, h.least, h.less, c.requires.0.sorted.size, slotted t (goal.at.overflow_add-k-2 t c).After-fork_of-fork)
-
-pub slice_bounds-write_below-end-3 : goal.slice_bounds-write_below-end-3
-slice_bounds-write_below-end-3 t c = let h = cut t (goal.at.slice_bounds-write_below-end-3 t c).After-fork_of-fork in sym (length-take-le ((left t (goal.at.slice_bounds-write_below-end-3 t c).After-fork_of-fork - 1) * 64) c.args.slots.now (omega (arith, h.small, h.least, h.less, c.requires.0.sorted.size, slotted t (goal.at.slice_bounds-write_below-end-3 t c).After-fork_of-fork)))
-
-pub write_below-requires-2 : goal.write_below-requires-2
-write_below-requires-2 t c =
-    let a = c.args in
-    let h = cut t (goal.at.write_below-requires-2 t c).After-fork_of-fork in
-    let q = c.decreases in (
-      omega (arith, q, h.deeper, h.small),
-      (
-        record { some = h.least; deep = omega arith; sorted = before-sorted a.n a.s.now c.requires.0.sorted (left t (goal.at.write_below-requires-2 t c).After-fork_of-fork) (omega (arith, h.less)); range = h.left },
-        low-slots a.n a.from a.s.now (bits t (goal.at.write_below-requires-2 t c).After-fork_of-fork) (left t (goal.at.write_below-requires-2 t c).After-fork_of-fork) c.requires.0.sorted h a.slots.now c.requires.1,
-        c.requires.2,
-        omega (arith, c.write_step-next.auto.out, way-room (label t (goal.at.write_below-requires-2 t c).After-fork_of-fork) (whole t (goal.at.write_below-requires-2 t c).After-fork_of-fork) (low t (goal.at.write_below-requires-2 t c).After-fork_of-fork) (bits t (goal.at.write_below-requires-2 t c).After-fork_of-fork) _ (turned t (goal.at.write_below-requires-2 t c).After-label_bit-right false c.if-right.false) a.out.now _ a.at _ c.requires.3 (step t (goal.at.write_below-requires-2 t c).After-write_step-next false c.if-right.false)),
-      ),
-    )
-
-pub shape_of-out : goal.shape_of-out
-shape_of-out t c = c.write_below-2.auto.out ∙ c.write_step-next.auto.out
 
 pub returns : goal.returns
 returns t c =
-    let a = c.args in
-    way-wrote (label t (goal.at.returns t c).After-fork_of-fork) (whole t (goal.at.returns t c).After-fork_of-fork) (low t (goal.at.returns t c).After-fork_of-fork) (bits t (goal.at.returns t c).After-fork_of-fork) _ (turned t (goal.at.returns t c).After-label_bit-right false c.if-right.false) a.out.now _ a.at _ c.requires.3 (step t (goal.at.returns t c).After-write_step-next false c.if-right.false) _ _ c.write_below-2.ensures
+    let d = (goal.at.returns t c).After-fork_of-length in
+    let b = c.label_bit-right.result in
+    let e : build 256 (as_nodes c.if-right.taken.now) ≡ cond b (high t d) (low t d) = ap (build 256) (side-is t (goal.at.returns t c).Joined-right-2) ∙ build-taken b (left t d) (leaves t d) in
+    way-wrote (label t d) (whole t d) (cond b (high t d) (low t d)) (bits t d) _ (turned t (goal.at.returns t c).After-label_bit-right) c.args.out.now _ c.args.at _ c.requires.2 (step t (goal.at.returns t c).After-write_step-next) _ _
+    (subst (λ u. Wrote c.write_step-next.new.out c.write_step-next.result (way_bytes (label t d) u) c.write_below.new.out c.write_below.result) e c.write_below.ensures)

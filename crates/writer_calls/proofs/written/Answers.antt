@@ -1,13 +1,15 @@
--- What a writer says it wrote lies in the output.
+-- What a writer says it wrote lies in its output.
 use Rattle.writer_calls.proofs.Room.{proof-within, write-within}
 use Rattle.writer_calls.proofs.written.Goals as goal
 
-pub returns-in-12 : goal.returns-in-12
-returns-in-12 c =
+pub returns-in-Lookup : goal.returns-in-Lookup
+returns-in-Lookup c =
+    let t = c.args.t in
     let l = c.write_lookup in
-    proof-within c.args.records.now c.args.heads.now c.args.state c.args.out.now l.result l.new.out _ l.ensures (write-within _ _ _ _ _ _ _ _) l.auto.out
+    proof-within t.records.now t.heads.now t.state c.args.out.now l.result l.new.out _ l.ensures (write-within _ _ _ _ _ _ _ _) l.auto.out
 
-pub returns-in_default : goal.returns-in_default
-returns-in_default c =
+pub returns-in-History : goal.returns-in-History
+returns-in-History c =
+    let t = c.args.t in
     let l = c.write_history in
-    proof-within c.args.records.now c.args.heads.now c.args.state c.args.out.now l.result l.new.out _ l.ensures (write-within _ _ _ _ _ _ _ _) l.auto.out
+    proof-within t.records.now t.heads.now t.state c.args.out.now l.result l.new.out _ l.ensures (write-within _ _ _ _ _ _ _ _) l.auto.out

@@ -8,9 +8,6 @@ use Rattle.bits.proofs.label.first_difference.Given as goal
 abbrev pub invariant-loop-k : goal.invariant-loop-k
 invariant-loop-k l = (l.k ≤ 8) × Agree (bits_of l.a) (bits_of l.b) (l.i * 8 + l.k)
 
-abbrev pub decreases-loop-k : goal.decreases-loop-k
-decreases-loop-k l = 8 - l.k
-
 abbrev pub invariant-bytes : goal.invariant-bytes
 invariant-bytes l = (l.i ≤ 32) × (l.i ≤ length l.a) × (l.i ≤ length l.b) × Agree (bits_of l.a) (bits_of l.b) (l.i * 8)
 

@@ -7,6 +7,7 @@ use Prim.Native.Nat.{suc, ◌+◌, ◌*◌, ◌≤◌}
 use lib.ListN.{length}
 use Rattle.front.proofs.Items.{item-most, bytes-start, long-yes, length-yes, long-no, bytes-no}
 use Rattle.front.proofs.keys.items_size.Goals as goal
+use Rattle.front.proofs.keys.items_size.Goals.{then-is_own, else-is_own}
 
 pub loop-i-init : goal.loop-i-init
 loop-i-init c =
@@ -26,33 +27,30 @@ overflow_add-size c =
     let b : c.loop-i.size + c.item_size-size.result ≤ suc c.loop-i.i * 168 = omega (arith, c.loop-i.invariant.1, most, c.item_size-size.ensures) in
     search rules
 
-pub loop-i-preserved-then-is_own : goal.loop-i-preserved-then-is_own
-loop-i-preserved-then-is_own c =
-    let a = c.args in
-    let s = a.records.now in
-    let i = c.loop-i.i in
-    let h = c.loop-i-test.true in
-    let own = sym c.is_own.ensures ∙ c.if-is_own.true in
-    let long = c.loop-i.invariant.2 in
-    let more = length-yes s a.name.now a.epoch a.from i long own in (
-      omega (arith, h),
-      omega (arith, c.loop-i.invariant.1, c.item_size-size.ensures, item-most s i (c.requires.0 i h)),
-      rw (add-one i) (long-yes s a.name.now a.epoch a.from i long own),
-      rw (add-one i) (omega (arith, c.loop-i.invariant.3, c.item_size-size.ensures, more)),
-    )
-
 pub loop-i-preserved : goal.loop-i-preserved
 loop-i-preserved c =
     let a = c.args in
     let s = a.records.now in
     let i = c.loop-i.i in
-    let own = sym c.is_own.ensures ∙ c.if-is_own.false in
-    let long = c.loop-i.invariant.2 in (
-      omega (arith, c.loop-i-test.true),
-      omega (arith, c.loop-i.invariant.1),
-      rw (add-one i) (long-no s a.name.now a.epoch a.from i long own),
-      rw (add-one i) (c.loop-i.invariant.3 ∙ sym (ap length (bytes-no s a.name.now a.epoch a.from i long own))),
-    )
+    let h = c.loop-i-test.true in
+    let long = c.loop-i.invariant.2 in
+    elim c.if-is_own.branch [
+      | then-is_own w ↦
+          let own = sym c.is_own.ensures ∙ w.if-is_own.true in
+          let more = length-yes s a.name.now a.epoch a.from i long own in (
+            omega (arith, h),
+            omega (arith, c.loop-i.invariant.1, w.size-is, w.item_size-size.ensures, item-most s i (c.requires.0 i h)),
+            rw (add-one i) (long-yes s a.name.now a.epoch a.from i long own),
+            rw (add-one i) (omega (arith, c.loop-i.invariant.3, w.size-is, w.item_size-size.ensures, more)),
+          )
+      | else-is_own w ↦
+          let own = sym c.is_own.ensures ∙ w.if-is_own.false in (
+            omega (arith, h),
+            omega (arith, c.loop-i.invariant.1, w.size-is),
+            rw (add-one i) (long-no s a.name.now a.epoch a.from i long own),
+            rw (add-one i) (w.size-is ∙ c.loop-i.invariant.3 ∙ sym (ap length (bytes-no s a.name.now a.epoch a.from i long own))),
+          )
+    ]
 
 pub returns : goal.returns
 returns c =

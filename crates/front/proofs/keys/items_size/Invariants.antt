@@ -1,5 +1,5 @@
 use mathlib.Core.Path.{◌≡◌}
-use Prim.Native.Nat.{◌-◌, ◌*◌, ◌≤◌}
+use Prim.Native.Nat.{◌*◌, ◌≤◌}
 use lib.ListN.{length}
 use Rattle.paper.specs.Labelling.{plain}
 use Rattle.paper.specs.Write.{versions_by}
@@ -11,6 +11,3 @@ abbrev pub invariant-loop-i : goal.invariant-loop-i
 invariant-loop-i l =
     (l.i ≤ l.count) × (l.size ≤ l.i * 97) × (length (versions_by plain l.name l.epoch (records_in l.from l.records)) ≤ length (versions_by plain l.name l.epoch (records_in l.i l.records)))
     × (l.size ≡ length (item_bytes (items_from l.records l.name l.epoch l.from l.i)))
-
-abbrev pub decreases-loop-i : goal.decreases-loop-i
-decreases-loop-i l = l.count - l.i

@@ -7,7 +7,7 @@ use lib.ListN.{length}
 use Rattle.paper.specs.Strings.{Node}
 use Rattle.paper.specs.Tree.{root}
 use Rattle.paper.specs.Write.{below_root}
-use Rattle.paper.specs.Level.{leaves_in}
+use Rattle.leaf_row.specs.Row.{as_nodes}
 use Rattle.paper.proofs.Honest.{LeafSet}
 use Rattle.ranges.proofs.Slices.{bytewise}
 use Rattle.tree_path.proofs.There.{leaf-set}
@@ -18,43 +18,39 @@ use Rattle.lay_audit.proofs.lay.lay.Goals as goal
 use Rattle.lay_audit.proofs.lay.lay.Goals.{After-lay_new-next, After-slice_known-2-1, Start}
 
 abbrev first-leaves : Start → List Node
-first-leaves c = leaves_in c.args.a.leaves c.args.all.now
+first-leaves c = as_nodes c.args.all.now.leaves.now
 
 abbrev second-leaves : Start → List Node
-second-leaves c = leaves_in c.args.o.leaves c.args.old.now
+second-leaves c = as_nodes c.args.old.now.leaves.now
 
 -- all of it has room
 room : (c : Start) → 106 + length (new_with c.args.heads.now c.args.epoch (first-leaves c) (second-leaves c)) ≤ length c.args.out.now
-room c = omega (arith, with_size c.args.heads.now c.args.epoch (first-leaves c) (second-leaves c) c.requires.0, c.requires.2)
+room c = omega (arith, with_size c.args.heads.now c.args.epoch (first-leaves c) (second-leaves c) c.requires.0, c.requires.3)
 
 pub lay_new-next-requires : goal.lay_new-next-requires
-lay_new-next-requires c = (c.requires.0, c.requires.1, room (goal.at.lay_new-next-requires c).Start)
+lay_new-next-requires c = (c.requires.0, c.requires.1, c.requires.2, room (goal.at.lay_new-next-requires c).Start)
 
 -- the leaves of either tree are a set
 first-set : (c : After-lay_new-next) → LeafSet (first-leaves (goal.at.After-lay_new-next c).Start)
 first-set c =
-    let a = c.args in
-    leaf-set a.a.leaves a.all.now c.requires.1.first (bytewise a.all.now c.type_inv.all)
+    leaf-set _ c.requires.1.tree.sorted
 
 second-set : (c : After-lay_new-next) → LeafSet (second-leaves (goal.at.After-lay_new-next c).Start)
 second-set c =
-    let a = c.args in
-    leaf-set a.o.leaves a.old.now c.requires.1.second (bytewise a.old.now c.type_inv.old)
+    leaf-set _ c.requires.2.tree.sorted
 
 -- both lists stand in what was laid
 first-list : (c : After-slice_known-2-1) → ListStands c.lay_new-next.new.out 206 (below_root c.args.epoch (root (first-leaves (goal.at.After-slice_known-2-1 c).Start)))
 first-list c =
     let a = c.args in
-    let k = c.requires.1 in
     all-stands a.heads.now a.epoch (first-leaves (goal.at.After-slice_known-2-1 c).Start) (second-leaves (goal.at.After-slice_known-2-1 c).Start) c.requires.0 a.out.now c.lay_new-next.new.out c.lay_new-next.result (room (goal.at.After-slice_known-2-1 c).Start) c.lay_new-next.ensures (bytewise c.lay_new-next.new.out c.slice_known-2-1.given) (first-set (goal.at.After-slice_known-2-1 c).After-lay_new-next)
-    (list-few a.epoch a.a.leaves a.all.now a.all_slots.now a.a.sides k.first k.first_stored k.first_few)
+    (list-few a.epoch a.all.now c.requires.1)
 
 second-list : (c : After-slice_known-2-1) → ListStands c.lay_new-next.new.out c.lay_new-next.result (below_root c.args.epoch (root (second-leaves (goal.at.After-slice_known-2-1 c).Start)))
 second-list c =
     let a = c.args in
-    let k = c.requires.1 in
     old-stands a.heads.now a.epoch (first-leaves (goal.at.After-slice_known-2-1 c).Start) (second-leaves (goal.at.After-slice_known-2-1 c).Start) c.requires.0 a.out.now c.lay_new-next.new.out c.lay_new-next.result (room (goal.at.After-slice_known-2-1 c).Start) c.lay_new-next.ensures (bytewise c.lay_new-next.new.out c.slice_known-2-1.given) (second-set (goal.at.After-slice_known-2-1 c).After-lay_new-next)
-    (list-few a.epoch a.o.leaves a.old.now a.old_slots.now a.o.sides k.second k.second_stored k.second_few)
+    (list-few a.epoch a.old.now c.requires.2)
 
 pub root_before-all_before-requires : goal.root_before-all_before-requires
 root_before-all_before-requires c =
@@ -80,5 +76,5 @@ returns c =
     let a = c.args in
     let first = c.root_before-all_before.ensures ∙ stands-root _ 206 a.epoch (first-leaves (goal.at.returns c).Start) (first-set (goal.at.returns c).After-lay_new-next) (first-list (goal.at.returns c).After-slice_known-2-1) in
     let second = c.root_before-old_before.ensures ∙ stands-root _ c.lay_new-next.result a.epoch (second-leaves (goal.at.returns c).Start) (second-set (goal.at.returns c).After-lay_new-next) (second-list (goal.at.returns c).After-slice_known-2-1) in
-    laid-all a.heads.now a.epoch (first-leaves (goal.at.returns c).Start) (second-leaves (goal.at.returns c).Start) c.requires.0 a.out.now _ c.put.new.dst _ c.lay_new-next.result c.requires.2 c.lay_new-next.ensures c.put.ensures
+    laid-all a.heads.now a.epoch (first-leaves (goal.at.returns c).Start) (second-leaves (goal.at.returns c).Start) c.requires.0 a.out.now _ c.put.new.dst _ c.lay_new-next.result c.requires.3 c.lay_new-next.ensures c.put.ensures
     (c.write_head.ensures ∙ head-found a.heads.now _ c.put.new.dst 6 first second)

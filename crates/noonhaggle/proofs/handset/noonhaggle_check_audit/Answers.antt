@@ -4,4 +4,4 @@ use Rattle.results.specs.Results.{audit_result}
 use Rattle.noonhaggle.proofs.handset.noonhaggle_check_audit.Goals as goal
 
 pub returns : goal.returns
-returns c = c.audit_result.ensures ∙ ap audit_result c.check_audit.ensures
+returns c = c.into.ensures ∙ ap audit_result c.check_audit.ensures

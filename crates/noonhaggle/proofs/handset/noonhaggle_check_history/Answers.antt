@@ -4,4 +4,4 @@ use Rattle.results.specs.Results.{history_result}
 use Rattle.noonhaggle.proofs.handset.noonhaggle_check_history.Goals as goal
 
 pub returns : goal.returns
-returns c = c.history_result.ensures ∙ ap history_result c.check_history.ensures
+returns c = c.into.ensures ∙ ap history_result c.check_history.ensures

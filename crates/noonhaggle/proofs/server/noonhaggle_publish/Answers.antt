@@ -3,4 +3,4 @@ use Rattle.noonhaggle.proofs.Left.{publish-left}
 use Rattle.noonhaggle.proofs.server.noonhaggle_publish.Goals as goal
 
 pub returns : goal.returns
-returns c = publish-left _ _ _ _ _ c.publish_result.ensures c.publish.ensures
+returns c = publish-left _ _ _ _ _ c.into.ensures c.publish.ensures

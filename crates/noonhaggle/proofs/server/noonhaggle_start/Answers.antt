@@ -3,4 +3,4 @@ use Rattle.noonhaggle.proofs.Left.{start-left}
 use Rattle.noonhaggle.proofs.server.noonhaggle_start.Goals as goal
 
 pub returns : goal.returns
-returns c = start-left _ _ _ _ c.start_result.ensures c.start.ensures
+returns c = start-left _ _ _ _ c.into.ensures c.start.ensures

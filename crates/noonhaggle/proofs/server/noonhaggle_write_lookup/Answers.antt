@@ -3,4 +3,4 @@ use Rattle.noonhaggle.proofs.Left.{write-left}
 use Rattle.noonhaggle.proofs.server.noonhaggle_write_lookup.Goals as goal
 
 pub returns : goal.returns
-returns c = write-left _ _ _ _ c.write_result.ensures c.write_lookup.ensures
+returns c = write-left _ _ _ _ c.into.ensures c.write_lookup.ensures

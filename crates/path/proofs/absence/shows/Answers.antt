@@ -1,11 +1,11 @@
 -- `path::absence::shows`: each kind of end by its rule, under the last step's length.
 use borrow.Author.Rules.{rules}
 use native.Mathlib.Omega.{arith}
-use mathlib.Core.Path.{◌≡◌, sym, ◌∙◌, subst}
+use mathlib.Core.Path.{◌≡◌, sym, ap, ◌∙◌, subst}
 use Prim.Native.Nat.{◌-◌, ◌≤◌}
 use lib.ListN.{length}
 use Rattle.paper.specs.Path.{absent}
-use Rattle.path_form.specs.Places.{EndStands}
+use Rattle.path_form.specs.Places.{commitment_of, end_in, EndStands}
 use Rattle.path_form.specs.declared.End.{End}
 use Rattle.path_form.proofs.Steps.{last-at}
 use Rattle.path.proofs.Parting.{other-shows, off-shows}
@@ -39,7 +39,10 @@ pub parts-requires-in-Off : goal.parts-requires-in-Off
 parts-requires-in-Off c = let h = ending (goal.at.parts-requires-in-Off c).After-last_length-k _ c.in-Off.is in omega arith
 
 pub returns-in-This : goal.returns-in-This
-returns-in-This c = rw c.in-This.is
+returns-in-This c =
+    let a = c.args in
+    let q = c.requires.shown ∙ ap (λ e. commitment_of (end_in a.s.now e)) c.in-This.is in
+    rw (c.in-This.is, q)
 
 pub returns-in-Other : goal.returns-in-Other
 returns-in-Other c =

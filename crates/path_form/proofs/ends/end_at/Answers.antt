@@ -15,7 +15,7 @@ use Rattle.path_form.proofs.ends.end_at.Goals.{After-shared_slice_known-2-1}
 pub returns-then-at-s : goal.returns-then-at-s
 returns-then-at-s c =
     let a = c.args in
-    c.no_end.ensures ∙ sym (kind-missing a.m a.s.now a.at (bytewise a.s.now c.type_inv.s) (search rules))
+    sym (kind-missing a.m a.s.now a.at (bytewise a.s.now c.type_inv.s) (search rules))
 
 bytes : (c : After-shared_slice_known-2-1) → Bytewise c.args.s.now
 bytes c = bytewise c.args.s.now c.shared_slice_known-1.given
@@ -27,11 +27,6 @@ by_kind c k e l =
     let a = c.args in
     sym (kind-good a.m a.s.now a.at (bytes c) k (search rules) e l)
 
-pub returns-then-m-ne1 : goal.returns-then-m-ne1
-returns-then-m-ne1 c =
-    let a = c.args in
-    c.no_end-then-m-ne1.ensures ∙ sym (none-no a.m a.s.now (a.at + 1) (bytes (goal.at.returns-then-m-ne1 c).After-shared_slice_known-2-1) c.if-m-ne1.true) ∙ by_kind (goal.at.returns-then-m-ne1 c).After-shared_slice_known-2-1 3 c.in-3.is (omega arith)
-
 pub returns-in-0 : goal.returns-in-0
 returns-in-0 c = c.this_leaf.ensures c.args.m ∙ by_kind (goal.at.returns-in-0 c).After-shared_slice_known-2-1 0 c.in-0.is (omega arith)
 
@@ -41,14 +36,18 @@ returns-in-1 c = c.other_leaf.ensures c.args.m ∙ by_kind (goal.at.returns-in-1
 pub returns-in-2 : goal.returns-in-2
 returns-in-2 c = c.other_inner.ensures c.args.m ∙ by_kind (goal.at.returns-in-2 c).After-shared_slice_known-2-1 2 c.in-2.is (omega arith)
 
-pub returns-else-m-ne1 : goal.returns-else-m-ne1
-returns-else-m-ne1 c =
+pub returns-in-3 : goal.returns-in-3
+returns-in-3 c =
     let a = c.args in
-    sym (none-yes a.m a.s.now (a.at + 1) (bytes (goal.at.returns-else-m-ne1 c).After-shared_slice_known-2-1) (search rules) c.if-m-ne1.false) ∙ by_kind (goal.at.returns-else-m-ne1 c).After-shared_slice_known-2-1 3 c.in-3.is (omega arith)
+    sym (none-yes a.m a.s.now (a.at + 1) (bytes (goal.at.returns-in-3 c).After-shared_slice_known-2-1) (search rules) c.if-m-eq1.true) ∙ by_kind (goal.at.returns-in-3 c).After-shared_slice_known-2-1 3 c.in-3.is (omega arith)
 
 pub returns-in_default : goal.returns-in_default
 returns-in_default c =
     let a = c.args in
-    let r = c.in_default.in_default-own.rest in
-    let h : 3 < get_or a.s.now a.at 0 = omega (arith, r.1, r.0.1, r.0.0.1, r.0.0.0.1) in
-    c.no_end-in_default.ensures ∙ sym (kind-bad a.m a.s.now a.at (bytes (goal.at.returns-in_default c).After-shared_slice_known-2-1) (search rules) h)
+    sym (none-no a.m a.s.now (a.at + 1) (bytes (goal.at.returns-in_default c).After-shared_slice_known-2-1) c.if-m-eq1.false) ∙ by_kind (goal.at.returns-in_default c).After-shared_slice_known-2-1 3 c.in-3.is (omega arith)
+
+pub returns-in_default-2 : goal.returns-in_default-2
+returns-in_default-2 c =
+    let a = c.args in
+    let h : 3 < get_or a.s.now a.at 0 = omega arith in
+    sym (kind-bad a.m a.s.now a.at (bytes (goal.at.returns-in_default-2 c).After-shared_slice_known-2-1) (search rules) h)

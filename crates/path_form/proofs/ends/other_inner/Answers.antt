@@ -11,15 +11,13 @@ pub returns-then-s-at-lt98 : goal.returns-then-s-at-lt98
 returns-then-s-at-lt98 c m =
     let a = c.args in
     let s = a.s.now in
-    c.no_end.ensures
-    ∙ sym (ended-short (end_of m 2) (off-flat m) s a.at a.at (bytewise s c.type_inv.s) (search rules) (search rules))
+    sym (ended-short (end_of m 2) (off-flat m) s a.at a.at (bytewise s c.type_inv.s) (search rules) (search rules))
 
 pub returns-then-not-prefix_good : goal.returns-then-not-prefix_good
 returns-then-not-prefix_good c m =
     let a = c.args in
     let s = a.s.now in
-    c.no_end-then-not-prefix_good.ensures
-    ∙ sym (ended-no (end_of m 2) (off-flat m) s a.at a.at (bytewise s c.type_inv.s)
+    sym (ended-no (end_of m 2) (off-flat m) s a.at a.at (bytewise s c.type_inv.s)
     (sym c.prefix_good.ensures ∙ c.if-not-prefix_good.true))
 
 pub returns : goal.returns

@@ -14,8 +14,7 @@ pub returns-then-s-at-lt68 : goal.returns-then-s-at-lt68
 returns-then-s-at-lt68 c m =
     let a = c.args in
     let s = a.s.now in
-    c.no_end.ensures
-    ∙ sym (ended-short (end_of m 1) (other-flat m) s a.at a.at (bytewise s c.type_inv.s) (search rules) (search rules))
+    sym (ended-short (end_of m 1) (other-flat m) s a.at a.at (bytewise s c.type_inv.s) (search rules) (search rules))
 
 pub returns : goal.returns
 returns c m =

@@ -14,13 +14,12 @@ pub returns-then-s-at-lt36 : goal.returns-then-s-at-lt36
 returns-then-s-at-lt36 c m =
     let a = c.args in
     let s = a.s.now in
-    c.no_end.ensures
-    ∙ sym (ended-short (end_of m 0) (this-flat m) s a.at a.at (bytewise s c.type_inv.s) (search rules) (search rules))
+    sym (ended-short (end_of m 0) (this-flat m) s a.at a.at (bytewise s c.type_inv.s) (search rules) (search rules))
 
 pub returns : goal.returns
 returns c m =
     let a = c.args in
     let s = a.s.now in
     let e = c.read32-epoch.ensures ∙ ap (λ t. number (take 4 t)) (sym (drop-drop 32 a.at s)) in
-    rw (e, c.digest_at-commitment.ensures)
+    rw (e, c.digest_at.ensures)
     (sym (ended-yes (end_of m 0) (this-flat m) s a.at a.at (bytewise s c.type_inv.s) (search rules) refl))

@@ -1,22 +1,40 @@
 -- `paths::sizes::measure_in`: the label's way says both.
-use mathlib.Core.Path.{◌≡◌, refl, sym, ap, subst}
-use mathlib.Core.Bool.{true, not}
+use mathlib.Core.Path.{◌≡◌, refl, sym, ap, ap₂, ◌∙◌}
+use mathlib.Core.Bool.{Bool, true, false, not, ◌||◌}
 use Prim.Native.Nat.{◌≤◌}
-use Rattle.ranges.proofs.Slices.{bytewise}
+use lib.ListN.{length}
+use Rattle.paper.specs.Bits.{bits_of}
+use Rattle.paper.specs.Tree.{root}
+use Rattle.paper.specs.Path.{way}
+use Rattle.paper.specs.Fields.{path_field}
+use Rattle.paper.specs.Table.{holds}
+use Rattle.leaf_row.specs.Row.{as_nodes}
 use Rattle.tree_path.proofs.There.{path-most}
 use Rattle.paths.proofs.sizes.measure_in.Goals as goal
-use Rattle.paths.proofs.sizes.measure_in.Goals.{After-path_length-size}
+use Rattle.paths.proofs.sizes.measure_in.Goals.{Start, After-path_length, else-not-there-via-then-not-there+else-is_there, else-not-there-via-else-not-there}
 
-few : (c : After-path_length-size) → c.path_length-size.result ≤ 8805
-few c =
-    let a = c.args in
-    subst (λ n. n ≤ 8805) (sym c.path_length-size.ensures) (path-most a.tree.leaves a.row.now a.label.now c.requires.0 (bytewise a.row.now c.type_inv.row) c.requires.1)
+few : (c : Start) → length (path_field.bytes (way (bits_of c.args.label.now) (root (as_nodes c.args.tree.now.leaves.now)))) ≤ 8805
+few c = path-most (as_nodes c.args.tree.now.leaves.now) c.args.label.now c.requires c.told-label
 
-pub returns-then-there : goal.returns-then-there
-returns-then-there c =
-    let b : c.args.there ≡ true = c.if-there.true in
-    record { clear = rw b refl; size = c.path_length-size.ensures; most = few (goal.at.returns-then-there c).After-path_length-size }
+pub is_there-requires : goal.is_there-requires
+is_there-requires c = c.requires
+
+pub path_length-requires : goal.path_length-requires
+path_length-requires c = c.requires
+
+pub returns-then-is_there : goal.returns-then-is_there
+returns-then-is_there c =
+    record { measured = ap₂ (λ b h. b || not h) c.if-not-there.true (sym c.is_there.ensures ∙ c.if-is_there.true); most = few (goal.at.returns-then-is_there c).Start }
+
+or-true : (b : Bool) → (b || true) ≡ true
+or-true true = refl
+or-true false = refl
+
+free : (c : After-path_length) → (c.args.there || not (holds (bits_of c.args.label.now) (as_nodes c.args.tree.now.leaves.now))) ≡ true
+free c = elim c.else-not-there.branch [
+  | else-not-there-via-then-not-there+else-is_there w ↦ ap (λ h. c.args.there || not h) (sym w.is_there.ensures ∙ w.if-is_there.false) ∙ or-true c.args.there
+  | else-not-there-via-else-not-there w ↦ ap (λ b. b || not (holds (bits_of c.args.label.now) (as_nodes c.args.tree.now.leaves.now))) w.if-not-there.false
+]
 
 pub returns : goal.returns
-returns c =
-    record { clear = rw c.if-there.false (ap not c.is_there.ensures); size = c.path_length-size.ensures; most = few (goal.at.returns c).After-path_length-size }
+returns c = record { measured = (free (goal.at.returns c).After-path_length, c.path_length.ensures); most = few (goal.at.returns c).Start }

@@ -22,15 +22,7 @@ overflow_add-numbers c = let p = power c in omega arith
 pub overflow_add-result : goal.overflow_add-result
 overflow_add-result c = let p = power (goal.at.overflow_add-result c).After-markers_by-most in omega (arith, by_most c.args.epoch)
 
-pub overflow_add-result-else-marks-most : goal.overflow_add-result-else-marks-most
-overflow_add-result-else-marks-most c = let p = power (goal.at.overflow_add-result-else-marks-most c).After-markers_by-most in omega arith
-
-pub returns-then-marks-most : goal.returns-then-marks-most
-returns-then-marks-most c =
-    let p = power (goal.at.returns-then-marks-most c).After-markers_by-most in
-    omega (arith, asked-length c.args.n c.args.epoch (omega arith))
-
-pub returns-else-marks-most : goal.returns-else-marks-most
-returns-else-marks-most c =
-    let p = power (goal.at.returns-else-marks-most c).After-markers_by-most in
-    omega (arith, asked-length c.args.n c.args.epoch (omega arith))
+pub returns : goal.returns
+returns c =
+    let p = power (goal.at.returns c).After-markers_by-most in
+    omega (arith, c.max.ensures, asked-length c.args.n c.args.epoch (omega arith))

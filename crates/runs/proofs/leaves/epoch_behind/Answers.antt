@@ -5,4 +5,4 @@ use Rattle.runs.proofs.leaves.epoch_behind.Goals as goal
 pub returns : goal.returns
 returns c =
     let a = c.args in
-    leaf-epoch a.s.now a.first a.k c.past.result c.leaf_at-last.result c.past.ensures c.leaf_at-last.ensures
+    leaf-epoch a.s.now a.first a.k c.past.result c.leaf_at.result c.past.ensures c.leaf_at.ensures

@@ -12,7 +12,7 @@ loop-init c = (search rules, place_none c.args.s.now c.args.at)
 pub loop-preserved : goal.loop-preserved
 loop-preserved c =
     let a = c.args in
-    (omega arith, c.path_after-here.ensures ∙ place-next a.s.now a.at c.loop.counter c.loop.here c.loop.invariant.1)
+    (omega arith, ap (λ x. x.next) c.leaf_at-here.ensures ∙ place-next a.s.now a.at c.loop.counter c.loop.here c.loop.invariant.1)
 
 pub returns : goal.returns
 returns c =

@@ -3,70 +3,77 @@
 use native.Mathlib.Omega.{arith}
 use mathlib.Core.Path.{◌≡◌, refl, sym, ap, ◌∙◌, subst}
 use Prim.Native.Nat.{◌+◌, ◌-◌}
-use Rattle.ranges.proofs.Slices.{bytewise}
+use Rattle.std.proofs.lemmas.Result.{err_from_is_err_and}
 use Rattle.shown.specs.Form.{ItemStands}
-use Rattle.runs.specs.Runs.{ask_version, item_at, place_at, epoch_from}
-use Rattle.runs.proofs.Going.{going-starts, going-ready, going_on, going-ends}
-use Rattle.runs.proofs.Cursors.{place_none, item-none, epoch-none, item-next, leaf-next, leaf-epoch}
+use Rattle.runs.specs.Runs.{ask_version, item_at, path_on, place_at, epoch_from}
+use Rattle.runs.proofs.Going.{going-starts, going-ready, going_on, going-fails, going-ends}
+use Rattle.runs.proofs.Cursors.{place_none, item-none, epoch-none, item-next, place-next, leaf-epoch, step-moves}
 use Rattle.runs.proofs.runs.versions.Goals as goal
-use Rattle.runs.proofs.runs.versions.Goals.{In-loop-i}
+use Rattle.runs.proofs.runs.versions.Goals.{In-loop-i, After-take}
 
 pub overflow_add-i-end : goal.overflow_add-i-end
 overflow_add-i-end c = omega (arith, c.requires.small)
 
 pub loop-i-init : goal.loop-i-init
 loop-i-init c =
-    let s = c.args.s.now in (
-      omega arith,
-      refl,
-      going-starts s c.args.name.now (ask_version s c.args.first c.args.epoch) 1 (c.args.n + 1) c.args.first c.args.walk (omega (arith, c.requires.ahead.room)),
-      item-none s,
-      place_none s c.args.first,
-      ap (λ k. k + 1) (epoch-none s c.args.first),
-    )
+    let s = c.args.first.proof.now in record {
+      some = omega arith;
+      most = refl;
+      going = going-starts (ask_version s c.args.first.at c.args.epoch) 1 (c.args.n + 1) c.args.first;
+      item = item-none s;
+      here = place_none s c.args.first.at;
+      low = ap (λ k. k + 1) (epoch-none s c.args.first.at);
+    }
 
 -- the key stands whole
-stands : (c : In-loop-i) → ItemStands c.args.s.now c.loop-i.item
+stands : (c : In-loop-i) → ItemStands c.args.first.proof.now c.loop-i.item
 stands c =
-    subst (ItemStands c.args.s.now) (sym c.loop-i.invariant.3) (c.requires.items (c.loop-i.i - 1) (omega (arith, c.loop-i.invariant.0, c.loop-i.invariant.1)))
+    subst (ItemStands c.args.first.proof.now) (sym c.loop-i.invariant.item) (c.requires.items (c.loop-i.i - 1) (omega (arith, c.loop-i.invariant.some, c.loop-i.invariant.most)))
 
-pub commitment_at-requires : goal.commitment_at-requires
-commitment_at-requires c = stands c
+pub commitment_at-key-requires : goal.commitment_at-key-requires
+commitment_at-key-requires c = stands c
 
-pub take_path-taken-requires : goal.take_path-taken-requires
-take_path-taken-requires c =
-    going-ready c.args.s.now c.args.name.now (ask_version c.args.s.now c.args.first c.args.epoch) 1 (c.args.n + 1) c.args.first _ c.loop-i.i c.loop-i.here c.loop-i.taken c.loop-i.invariant.2
-    c.requires.ahead.front c.requires.ahead.short (omega (arith, c.loop-i.invariant.1))
+pub bounds-proof-item : goal.bounds-proof-item
+bounds-proof-item c = let r = (stands (goal.at.bounds-proof-item c).In-loop-i).room in omega arith
 
-pub bounds-s-item : goal.bounds-s-item
-bounds-s-item c = let r = (stands (goal.at.bounds-s-item c).In-loop-i).room in omega arith
+pub take-requires : goal.take-requires
+take-requires c =
+    going-ready (ask_version c.args.first.proof.now c.args.first.at c.args.epoch) 1 (c.args.n + 1) c.args.first c.loop-i.i c.loop-i.reader c.loop-i.invariant.going _ (omega arith) c.requires.ahead (omega (arith, c.loop-i.invariant.most))
 
-pub overflow_cast-item : goal.overflow_cast-item
-overflow_cast-item c = let r = (stands (goal.at.overflow_cast-item c).In-loop-i).most in omega arith
+asked : (c : After-take) → c.present-asked.result ≡ ask_version c.args.first.proof.now c.args.first.at c.args.epoch c.loop-i.i
+asked c = c.present-asked.ensures ∙ rw (c.commitment_at-key.ensures, c.loop-i.invariant.item, c.loop-i.invariant.low)
 
-pub overflow_add-item : goal.overflow_add-item
-overflow_add-item c = let r = (stands (goal.at.overflow_add-item c).In-loop-i).most in omega arith
-
-pub overflow_add-item-in-loop-i : goal.overflow_add-item-in-loop-i
-overflow_add-item-in-loop-i c = let r = (stands (goal.at.overflow_add-item-in-loop-i c).In-loop-i).room in omega arith
+pub returns-in_err-reader : goal.returns-in_err-reader
+returns-in_err-reader c =
+    let a = c.args in
+    let p = err_from_is_err_and c.from_residual.result c.from_residual.ensures.1 in
+    rw (p.1, p.2) (record {
+      is = sym (going-fails (ask_version a.first.proof.now a.first.at a.epoch) 1 (a.n + 1) a.first c.loop-i.i c.loop-i.reader c.loop-i.invariant.going _ _ (omega (arith, c.loop-i.invariant.most)) (asked (goal.at.returns-in_err-reader c).After-take) (sym c.take.ensures.is ∙ c.in_err-reader.was));
+      counted = tt;
+    })
 
 pub loop-i-preserved : goal.loop-i-preserved
 loop-i-preserved c =
     let a = c.args in
-    let s = a.s.now in
+    let s = a.first.proof.now in
     let i = c.loop-i.i in
-    let inv = c.loop-i.invariant in
-    let e : i - 1 + 1 ≡ i + 1 - 1 = omega (arith, inv.0) in (
-      omega arith,
-      inv.1,
-      going_on s a.name.now (ask_version s a.first a.epoch) 1 (a.n + 1) a.first _ i c.loop-i.here c.loop-i.taken inv.2 (bytewise s c.shared_slice_known-1.given)
-          c.present-asked.result c.take_path-taken.result c.leaf_at-leaf.result.next (omega (arith, inv.1)) (c.present-asked.ensures ∙ rw (c.commitment_at.ensures, inv.3, inv.5)) c.take_path-taken.ensures (ap (λ x. x.next) c.leaf_at-leaf.ensures),
-      item-next s (i - 1) c.loop-i.item inv.3 ∙ ap (item_at s) e,
-      leaf-next s a.first (i - 1) c.loop-i.here c.leaf_at-leaf.result inv.4 c.leaf_at-leaf.ensures ∙ ap (place_at s a.first) e,
-      ap (λ k. k + 1) (leaf-epoch s a.first (i - 1) c.loop-i.here c.leaf_at-leaf.result inv.4 c.leaf_at-leaf.ensures ∙ ap (epoch_from s a.first) e),
-    )
+    let v = c.loop-i.invariant in
+    let e : i - 1 + 1 ≡ i + 1 - 1 = omega (arith, v.some) in
+    let took = sym c.take.ensures.is ∙ c.in_ok-reader.was in
+    let moved = step-moves _ c.loop-i.reader c.in_ok-reader.reader took ∙ ap (λ b. path_on b.now c.loop-i.reader.at) v.going.proof in
+    record {
+      some = omega arith;
+      most = v.most;
+      going = going_on (ask_version s a.first.at a.epoch) 1 (a.n + 1) a.first i c.loop-i.reader v.going _ _ (omega (arith, v.most)) (asked (goal.at.loop-i-preserved c).After-take) took c.in_ok-reader.ensures.counted;
+      item = item-next s (i - 1) c.loop-i.item v.item ∙ ap (item_at s) e;
+      here = moved ∙ place-next s a.first.at (i - 1) c.loop-i.reader.at v.here ∙ ap (place_at s a.first.at) e;
+      low = ap (λ k. k + 1) (leaf-epoch s a.first.at (i - 1) c.loop-i.reader.at c.leaf_at.result v.here c.leaf_at.ensures ∙ ap (epoch_from s a.first.at) e);
+    }
 
 pub returns : goal.returns
 returns c =
     let a = c.args in
-    going-ends a.s.now a.name.now (ask_version a.s.now a.first a.epoch) 1 (a.n + 1) a.first _ c.loop-i.i c.loop-i.here c.loop-i.taken c.loop-i.invariant.2 (omega (arith, c.loop-i.invariant.1))
+    record {
+      is = going-ends (ask_version a.first.proof.now a.first.at a.epoch) 1 (a.n + 1) a.first c.loop-i.i c.loop-i.reader c.loop-i.invariant.going (omega (arith, c.loop-i.invariant.most));
+      counted = omega (arith, c.loop-i.invariant.going.count);
+    }

@@ -5,8 +5,14 @@ use Rattle.runs.proofs.Going.{Going}
 use Rattle.runs.proofs.runs.versions.Given as goal
 
 abbrev pub invariant-loop-i : goal.invariant-loop-i
-invariant-loop-i l = (1 ≤ l.i) × (l.i-end ≡ l.n + 1) × Going l.s l.name (ask_version l.s l.first l.epoch) 1 (l.n + 1) l.first l.initial.taken l.i l.here l.taken
-    × (l.item ≡ item_at l.s (l.i - 1)) × (l.here ≡ place_at l.s l.first (l.i - 1)) × (l.low ≡ epoch_from l.s l.first (l.i - 1) + 1)
+invariant-loop-i l = record {
+  some : 1 ≤ l.i;
+  most : l.i-end ≡ l.n + 1;
+  going : Going (ask_version l.first.proof.now l.first.at l.epoch) 1 (l.n + 1) l.initial.reader l.i l.reader;
+  item : l.item ≡ item_at l.first.proof.now (l.i - 1);
+  here : l.reader.at ≡ place_at l.first.proof.now l.first.at (l.i - 1);
+  low : l.low ≡ epoch_from l.first.proof.now l.first.at (l.i - 1) + 1;
+}
 
 abbrev pub decreases-loop-i : goal.decreases-loop-i
 decreases-loop-i l = l.n + 1 - l.i

@@ -1,11 +1,7 @@
-use mathlib.Core.Path.{◌≡◌}
-use Prim.Native.Nat.{◌≤◌, ◌-◌}
-use lib.ListN.{length, drop}
+use Rattle.std.proofs.Common.{◌≡◌, drop}
+use mathlib.Core.List.{foldl}
 use Rattle.fips.specs.Sha256 as S
 use Rattle.sha256.proofs.blocks.blocks.Given as goal
 
-abbrev pub invariant-loop-at : goal.invariant-loop-at
-invariant-loop-at l = (l.at ≤ length l.m) × (S.hash l.r (drop l.at l.m) ≡ S.hash l.initial.r l.m)
-
-abbrev pub decreases-loop-at : goal.decreases-loop-at
-decreases-loop-at l = length l.m - l.at
+abbrev pub invariant-loop-block : goal.invariant-loop-block
+invariant-loop-block l = foldl S.compress l.r (drop l.block-index l.block-items) ≡ foldl S.compress l.fn.s l.block-items

@@ -16,15 +16,16 @@ bytes c = bytewise c.args.s.now c.type_inv.s
 pub loop-init : goal.loop-init
 loop-init c = (search rules, search rules, rw (sub-zero c.args.k))
 
-pub returns-in_default : goal.returns-in_default
-returns-in_default c =
+pub returns-in_err-place : goal.returns-in_err-place
+returns-in_err-place c =
     let a = c.args in
-    sym (c.loop.invariant.2 ∙ loop-stop item-lawful a.s.now (bytes (goal.at.returns-in_default c).At-loop) a.k c.loop.counter c.loop.place (omega arith) (omega arith) (sym c.item_after.ensures ∙ c.in_default.is))
+    c.from_residual.ensures
+    ∙ sym (c.loop.invariant.2 ∙ loop-stop item-lawful a.s.now (bytes (goal.at.returns-in_err-place c).At-loop) a.k c.loop.counter c.loop.place (omega arith) (omega arith) (sym c.item_after.ensures ∙ c.in_err-place.was))
 
 pub loop-preserved : goal.loop-preserved
 loop-preserved c =
     let a = c.args in
-    let e = sym c.item_after.ensures ∙ c.in-At.is in (
+    let e = sym c.item_after.ensures ∙ c.in_ok-place.was in (
       omega arith,
       after-within item-lawful a.s.now (bytes (goal.at.loop-preserved c).At-loop) c.loop.place _ (omega arith) e,
       c.loop.invariant.2 ∙ loop-on item-lawful a.s.now (bytes (goal.at.loop-preserved c).At-loop) a.k c.loop.counter c.loop.place (omega arith) _ (omega arith) e,

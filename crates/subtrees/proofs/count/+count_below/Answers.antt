@@ -1,104 +1,79 @@
 -- `subtrees::count_below`: one record where no leaf is new, and otherwise those of both parts. What is left of 256 bits falls.
 use native.Mathlib.Omega.{arith}
 use mathlib.Core.Path.{◌≡◌, sym, ap, ap₂, ◌∙◌}
-use Prim.Native.Nat.{ℕ, ◌+◌, ◌*◌}
-use lib.ListN.{length, length-append}
-use lib.Seq.{length-take-le}
-use borrow.Author.Tests.{not-true, not-false}
+use Prim.Native.Nat.{ℕ, ◌+◌}
+use mathlib.Core.List.{List}
+use lib.ListN.{length, take, drop, length-append}
+use Rattle.paper.specs.Strings.{Node}
 use Rattle.paper.specs.Tree.{Tree, build}
 use Rattle.paper.specs.Write.{has_new, subtrees}
-use Rattle.paper.specs.Level.{leaves_in}
-use Rattle.tree.proofs.Halves.{before, Halves, halves, before-sorted, behind-sorted}
+use Rattle.leaf_row.specs.Row.{as_nodes}
+use Rattle.leaf_row.proofs.Rows.{nodes-length, nodes-take, nodes-drop}
+use Rattle.tree.proofs.Halves.{Halves, halves, left-part, right-part}
 use Rattle.subtrees.proofs.News.{tree-new, one-length, old-fork, new-fork, trees-few}
 use Rattle.subtrees.proofs.count.+count_below.Goals as goal
-use Rattle.subtrees.proofs.count.+count_below.Goals.{After-count_below-right, After-fork_of-fork, After-has_new}
+use Rattle.subtrees.proofs.count.+count_below.Goals.{After-count_below-2, After-fork_of-length, After-has_new, After-split_at}
 
-pub returns-then-n-eq1 : goal.returns-then-n-eq1
-returns-then-n-eq1 t c = let a = c.args in sym (one-length a.epoch a.n a.s.now c.if-n-eq1.true)
+abbrev leaves : (t : ℕ) → After-fork_of-length t → List Node
+leaves t c = as_nodes c.args.leaves.now
 
-pub fork_of-fork-requires : goal.fork_of-fork-requires
-fork_of-fork-requires t c = (omega (arith, c.requires.0), c.requires.2)
+abbrev whole : (t : ℕ) → After-fork_of-length t → Tree
+whole t c = build 256 (leaves t c)
 
--- how many bits the leaves share, and how many of them go left
-abbrev bits : (t : ℕ) → After-fork_of-fork t → ℕ
-bits t c = c.fork_of-fork.result.length
-
-abbrev left : (t : ℕ) → After-fork_of-fork t → ℕ
-left t c = c.fork_of-fork.result.left
-
-cut : (t : ℕ) (c : After-fork_of-fork t) → Halves c.args.n c.args.from c.args.s.now (bits t c) (left t c)
-cut t c =
-    let a = c.args in
-    let h = c.requires in
-    halves a.n a.from a.s.now (bits t c) (left t c) h.2 h.1 h.3 c.fork_of-fork.ensures
-
-abbrev whole : (t : ℕ) → After-fork_of-fork t → Tree
-whole t c = build 256 (leaves_in c.args.n c.args.s.now)
+-- where the leaves part
+cut : (t : ℕ) (c : After-fork_of-length t) → Halves c.args.from (leaves t c) c.fork_of-length.result.length c.fork_of-length.result.left
+cut t c = let p = c.requires in halves c.args.from (leaves t c) _ _ p.sorted p.deep p.range c.fork_of-length.ensures
 
 -- what the scan of the leaves says of the tree
-scanned : (t : ℕ) (c : After-has_new t) → has_new c.args.epoch (whole t (goal.at.After-has_new t c).After-fork_of-fork) ≡ c.has_new.result
-scanned t c =
-    let a = c.args in
-    let h = c.requires in
-    tree-new a.epoch a.n a.from a.s.now h.2 h.3 h.1 ∙ sym c.has_new.ensures
+scanned : (t : ℕ) (c : After-has_new t) → has_new c.args.epoch (whole t (goal.at.After-has_new t c).After-fork_of-length) ≡ c.has_new.result
+scanned t c = tree-new c.args.epoch c.args.from (as_nodes c.args.leaves.now) c.requires ∙ sym c.has_new.ensures
 
-pub has_new-requires : goal.has_new-requires
-has_new-requires t c = omega (arith, c.requires.2.size)
+pub returns-then-leaves-eq1 : goal.returns-then-leaves-eq1
+returns-then-leaves-eq1 t c = let S = as_nodes c.args.leaves.now in sym (one-length c.args.epoch S c.requires.sorted.sized (nodes-length c.args.leaves.now ∙ c.if-leaves-eq1.true))
+
+pub fork_of-length-requires : goal.fork_of-length-requires
+fork_of-length-requires t c = (omega (arith, c.requires.some, nodes-length c.args.leaves.now), c.requires.sorted)
 
 pub returns-then-not-has_new : goal.returns-then-not-has_new
 returns-then-not-has_new t c =
-    sym (ap length (old-fork c.args.epoch (whole t (goal.at.returns-then-not-has_new t c).After-fork_of-fork) _ _ _ (cut t (goal.at.returns-then-not-has_new t c).After-fork_of-fork).tree (scanned t (goal.at.returns-then-not-has_new t c).After-has_new ∙ not-true _ c.if-not-has_new.true-raw)))
+    let d = (goal.at.returns-then-not-has_new t c).After-fork_of-length in
+    sym (ap length (old-fork c.args.epoch (whole t d) _ _ _ (cut t d).tree (scanned t (goal.at.returns-then-not-has_new t c).After-has_new ∙ c.if-not-has_new.true)))
 
-pub overflow_mul-middle : goal.overflow_mul-middle
-overflow_mul-middle t c = let h = cut t (goal.at.overflow_mul-middle t c).After-fork_of-fork in omega (arith, h.small, h.least, h.less, c.requires.2.size)
+pub split_at-requires : goal.split_at-requires
+split_at-requires t c = let h = cut t (goal.at.split_at-requires t c).After-fork_of-length in omega (arith, h.less, nodes-length c.args.leaves.now)
 
-pub slice_bounds-count_below-end : goal.slice_bounds-count_below-end
-slice_bounds-count_below-end t c =
-    let h = cut t (goal.at.slice_bounds-count_below-end t c).After-fork_of-fork in
-    sym (length-take-le (left t (goal.at.slice_bounds-count_below-end t c).After-fork_of-fork * 68) c.args.s.now (omega (arith, h.less, c.requires.2.size)))
+-- the two parts
+low : (t : ℕ) (c : After-split_at t) → as_nodes c.split_at.result.0.now ≡ take c.fork_of-length.result.left (as_nodes c.args.leaves.now)
+low t c = ap as_nodes c.split_at.ensures.front ∙ nodes-take c.fork_of-length.result.left c.args.leaves.now
 
-pub overflow_add-k : goal.overflow_add-k
-overflow_add-k t c = let h = cut t (goal.at.overflow_add-k t c).After-fork_of-fork in omega (arith, h.small, h.least, h.less, c.requires.2.size)
+high : (t : ℕ) (c : After-split_at t) → as_nodes c.split_at.result.1.now ≡ drop c.fork_of-length.result.left (as_nodes c.args.leaves.now)
+high t c = ap as_nodes c.split_at.ensures.back ∙ nodes-drop c.fork_of-length.result.left c.args.leaves.now
 
-pub count_below-left-requires : goal.count_below-left-requires
-count_below-left-requires t c =
-    let a = c.args in
-    let h = cut t (goal.at.count_below-left-requires t c).After-fork_of-fork in
-    let q = c.decreases in
-    (omega (arith, q, h.deeper, h.small), (h.least, omega arith, before-sorted a.n a.s.now c.requires.2 (left t (goal.at.count_below-left-requires t c).After-fork_of-fork) (omega (arith, h.less)), h.left))
+pub count_below-requires : goal.count_below-requires
+count_below-requires t c =
+    let h = cut t (goal.at.count_below-requires t c).After-fork_of-length in
+    (omega (arith, c.decreases, h.deeper, h.small), rw (low t (goal.at.count_below-requires t c).After-split_at) (left-part c.requires.sorted h))
 
-pub slice_bounds-count_below-count : goal.slice_bounds-count_below-count
-slice_bounds-count_below-count t c = let h = cut t (goal.at.slice_bounds-count_below-count t c).After-fork_of-fork in omega (arith, h.small, h.least, h.less, c.requires.2.size)
-
-pub slice_bounds-count_below-start : goal.slice_bounds-count_below-start
-slice_bounds-count_below-start t c = let h = cut t (goal.at.slice_bounds-count_below-start t c).After-fork_of-fork in omega (arith, h.small, h.least, h.less, c.requires.2.size)
-
-pub overflow_sub-n : goal.overflow_sub-n
-overflow_sub-n t c = let h = cut t (goal.at.overflow_sub-n t c).After-fork_of-fork in omega (arith, h.small, h.least, h.less, c.requires.2.size)
-
-pub overflow_add-k-2 : goal.overflow_add-k-2
-overflow_add-k-2 t c = let h = cut t (goal.at.overflow_add-k-2 t c).After-fork_of-fork in omega (arith, h.small, h.least, h.less, c.requires.2.size)
-
-pub count_below-right-requires : goal.count_below-right-requires
-count_below-right-requires t c =
-    let a = c.args in
-    let h = cut t (goal.at.count_below-right-requires t c).After-fork_of-fork in
-    let q = c.decreases in
-    (omega (arith, q, h.deeper, h.small), (omega (arith, h.less), omega arith, behind-sorted a.n a.s.now c.requires.2 (left t (goal.at.count_below-right-requires t c).After-fork_of-fork) (omega (arith, h.less)), h.right))
+pub count_below-requires-2 : goal.count_below-requires-2
+count_below-requires-2 t c =
+    let h = cut t (goal.at.count_below-requires-2 t c).After-fork_of-length in
+    (omega (arith, c.decreases, h.deeper, h.small), rw (high t (goal.at.count_below-requires-2 t c).After-split_at) (right-part c.requires.sorted h))
 
 -- the sum is that of the tree
-sum : (t : ℕ) (c : After-count_below-right t)
-    → c.count_below-left.result + c.count_below-right.result ≡ length (subtrees c.args.epoch (whole t (goal.at.After-count_below-right t c).After-fork_of-fork))
+sum : (t : ℕ) (c : After-count_below-2 t) → c.count_below.result + c.count_below-2.result ≡ length (subtrees c.args.epoch (build 256 (as_nodes c.args.leaves.now)))
 sum t c =
     let e = c.args.epoch in
-    ap₂ (λ x y. x + y) c.count_below-left.ensures c.count_below-right.ensures
-    ∙ sym (ap length (new-fork e (whole t (goal.at.After-count_below-right t c).After-fork_of-fork) _ _ _ (cut t (goal.at.After-count_below-right t c).After-fork_of-fork).tree (scanned t (goal.at.After-count_below-right t c).After-has_new ∙ not-false _ c.if-not-has_new.false-raw)) ∙ length-append (subtrees e (build 256 (leaves_in (left t (goal.at.After-count_below-right t c).After-fork_of-fork) (before (left t (goal.at.After-count_below-right t c).After-fork_of-fork) c.args.s.now)))) _)
+    let d = (goal.at.After-count_below-2 t c).After-fork_of-length in
+    let m = d.fork_of-length.result.left in
+    let s = (goal.at.After-count_below-2 t c).After-split_at in
+    ap₂ (λ x y. x + y) (c.count_below.ensures ∙ ap (λ S. length (subtrees e (build 256 S))) (low t s)) (c.count_below-2.ensures ∙ ap (λ S. length (subtrees e (build 256 S))) (high t s))
+    ∙ sym (ap length (new-fork e (whole t d) _ _ _ (cut t d).tree (scanned t (goal.at.After-count_below-2 t c).After-has_new ∙ c.if-not-has_new.false)) ∙ length-append (subtrees e (build 256 (take m (leaves t d)))) _)
 
 pub overflow_add-result : goal.overflow_add-result
 overflow_add-result t c =
     let a = c.args in
-    let h = c.requires in
-    omega (arith, sum t c, trees-few a.epoch a.n a.from a.s.now h.2 h.3 h.1)
+    let p = c.requires in
+    omega (arith, sum t (goal.at.overflow_add-result t c).After-count_below-2, trees-few a.epoch a.from (as_nodes a.leaves.now) p.sorted p.range p.deep, nodes-length a.leaves.now)
 
 pub returns : goal.returns
-returns t c = sum t c
+returns t c = sum t (goal.at.returns t c).After-count_below-2

@@ -1,58 +1,61 @@
 -- `subtrees::list_length`: the list is that of the left side and then that of the right one.
 use native.Mathlib.Omega.{arith}
 use mathlib.Core.Path.{◌≡◌, sym, ap, ap₂, ◌∙◌}
-use Prim.Native.Nat.{◌+◌, ◌*◌}
-use lib.ListN.{length, length-append}
-use lib.Seq.{length-take-le}
+use mathlib.Core.List.{List}
+use Prim.Native.Nat.{◌+◌}
+use lib.ListN.{length, take, drop, length-append}
+use Rattle.paper.specs.Strings.{Node}
 use Rattle.paper.specs.Tree.{build, root}
 use Rattle.paper.specs.Write.{subtrees, below_root}
-use Rattle.paper.specs.Level.{leaves_in}
+use Rattle.leaf_row.specs.Row.{as_nodes}
+use Rattle.leaf_row.proofs.Rows.{nodes-length, nodes-take, nodes-drop}
 use Rattle.tree.proofs.Step.{root-range}
-use Rattle.tree.proofs.Halves.{before, RootHalves, root-halves, before-sorted, behind-sorted}
+use Rattle.tree.proofs.Halves.{RootHalves, root-halves, before-sorted, behind-sorted}
 use Rattle.subtrees.proofs.News.{root-fork, root-few}
 use Rattle.subtrees.proofs.count.list_length.Goals as goal
-use Rattle.subtrees.proofs.count.list_length.Goals.{After-count_side-right, After-split-m}
+use Rattle.subtrees.proofs.count.list_length.Goals.{After-count_side-2, After-split, After-split_at}
 
-cut : (c : After-split-m) → RootHalves c.args.n c.args.s.now c.split-m.result
-cut c = root-halves c.args.n c.args.s.now c.split-m.result c.requires c.split-m.ensures
+abbrev leaves : After-split → List Node
+leaves c = as_nodes c.args.leaves.now
 
-pub split-m-requires : goal.split-m-requires
-split-m-requires c = (c.requires, root-range _)
+cut : (c : After-split) → RootHalves (leaves c) c.split.result
+cut c = root-halves (leaves c) c.split.result c.requires c.split.ensures
 
-pub overflow_mul-middle : goal.overflow_mul-middle
-overflow_mul-middle c = omega (arith, (cut c).most, c.requires.size)
+pub split-requires : goal.split-requires
+split-requires c = (c.requires, root-range _)
 
-pub slice_bounds-count_side-end : goal.slice_bounds-count_side-end
-slice_bounds-count_side-end c = sym (length-take-le (c.split-m.result * 68) c.args.s.now (omega (arith, (cut (goal.at.slice_bounds-count_side-end c).After-split-m).most, c.requires.size)))
+pub split_at-requires : goal.split_at-requires
+split_at-requires c = omega (arith, (cut c).most, nodes-length c.args.leaves.now)
 
-pub count_side-left-requires : goal.count_side-left-requires
-count_side-left-requires c = let a = c.args in (before-sorted a.n a.s.now c.requires c.split-m.result (cut (goal.at.count_side-left-requires c).After-split-m).most, (cut (goal.at.count_side-left-requires c).After-split-m).left)
+low : (c : After-split_at) → as_nodes c.split_at.result.0.now ≡ take c.split.result (as_nodes c.args.leaves.now)
+low c = ap as_nodes c.split_at.ensures.front ∙ nodes-take c.split.result c.args.leaves.now
 
-pub slice_bounds-count_side-count : goal.slice_bounds-count_side-count
-slice_bounds-count_side-count c = omega (arith, (cut (goal.at.slice_bounds-count_side-count c).After-split-m).most, c.requires.size)
+high : (c : After-split_at) → as_nodes c.split_at.result.1.now ≡ drop c.split.result (as_nodes c.args.leaves.now)
+high c = ap as_nodes c.split_at.ensures.back ∙ nodes-drop c.split.result c.args.leaves.now
 
-pub slice_bounds-count_side-start : goal.slice_bounds-count_side-start
-slice_bounds-count_side-start c = omega (arith, (cut (goal.at.slice_bounds-count_side-start c).After-split-m).most, c.requires.size)
+pub count_side-requires : goal.count_side-requires
+count_side-requires c =
+    let d = (goal.at.count_side-requires c).After-split in
+    rw (low (goal.at.count_side-requires c).After-split_at) (before-sorted (leaves d) c.requires c.split.result, (cut d).left)
 
-pub overflow_sub-n : goal.overflow_sub-n
-overflow_sub-n c = omega (arith, (cut (goal.at.overflow_sub-n c).After-split-m).most, c.requires.size)
-
-pub count_side-right-requires : goal.count_side-right-requires
-count_side-right-requires c = let a = c.args in (behind-sorted a.n a.s.now c.requires c.split-m.result (cut (goal.at.count_side-right-requires c).After-split-m).most, (cut (goal.at.count_side-right-requires c).After-split-m).right)
+pub count_side-requires-2 : goal.count_side-requires-2
+count_side-requires-2 c =
+    let d = (goal.at.count_side-requires-2 c).After-split in
+    rw (high (goal.at.count_side-requires-2 c).After-split_at) (behind-sorted (leaves d) c.requires c.split.result, (cut d).right)
 
 -- the sum is that of the tree
-sum : (c : After-count_side-right)
-    → c.count_side-left.result + c.count_side-right.result ≡ length (below_root c.args.epoch (root (leaves_in c.args.n c.args.s.now)))
+sum : (c : After-count_side-2) → c.count_side.result + c.count_side-2.result ≡ length (below_root c.args.epoch (root (as_nodes c.args.leaves.now)))
 sum c =
-    let a = c.args in
-    let m = c.split-m.result in
-    ap₂ (λ x y. x + y) c.count_side-left.ensures c.count_side-right.ensures
-    ∙ sym (ap length (root-fork a.epoch (root (leaves_in a.n a.s.now)) _ _ _ (cut (goal.at.After-count_side-right c).After-split-m).tree) ∙ length-append (subtrees a.epoch (build 256 (leaves_in m (before m a.s.now)))) _)
+    let e = c.args.epoch in
+    let d = (goal.at.After-count_side-2 c).After-split in
+    let s = (goal.at.After-count_side-2 c).After-split_at in
+    ap₂ (λ x y. x + y) (c.count_side.ensures ∙ ap (λ S. length (subtrees e (build 256 S))) (low s)) (c.count_side-2.ensures ∙ ap (λ S. length (subtrees e (build 256 S))) (high s))
+    ∙ sym (ap length (root-fork e (root (leaves d)) _ _ _ (cut d).tree) ∙ length-append (subtrees e (build 256 (take c.split.result (leaves d)))) _)
 
 pub overflow_add-result : goal.overflow_add-result
 overflow_add-result c =
-    let a = c.args in
-    omega (arith, sum c, root-few a.epoch a.n a.s.now c.split-m.result c.requires (cut (goal.at.overflow_add-result c).After-split-m))
+    let d = (goal.at.overflow_add-result c).After-split in
+    omega (arith, sum (goal.at.overflow_add-result c).After-count_side-2, root-few c.args.epoch (leaves d) c.split.result c.requires (cut d), nodes-length c.args.leaves.now)
 
 pub returns : goal.returns
-returns c = sum c
+returns c = sum (goal.at.returns c).After-count_side-2

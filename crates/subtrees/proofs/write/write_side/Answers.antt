@@ -1,14 +1,13 @@
 -- `subtrees::write_side`: no record, or those below the root; its slots come before the spare one.
-use native.Mathlib.Omega.{arith}
-use mathlib.Core.Path.{sym}
-use Prim.Native.Nat.{◌-◌, ◌*◌}
-use lib.Seq.{length-take-le}
+use mathlib.Core.Path.{sym, ◌∙◌}
+use lib.ListN.{length}
+use borrow.Author.Tests.{eqb-true}
+use Rattle.leaf_row.specs.Row.{as_nodes}
+use Rattle.leaf_row.proofs.Rows.{nodes-length}
 use Rattle.subtrees.proofs.Records.{none-bytes, wrote_none}
 use Rattle.subtrees.proofs.write.write_side.Goals as goal
 
-pub returns-then-n-eq0 : goal.returns-then-n-eq0
-returns-then-n-eq0 c = let a = c.args in wrote_none a.out.now _ a.at (none-bytes a.epoch a.n a.s.now c.if-n-eq0.true)
-
-pub slice_bounds-write_below-end : goal.slice_bounds-write_below-end
-slice_bounds-write_below-end c =
-    sym (length-take-le ((c.args.n - 1) * 64) c.args.slots.now (omega (arith, c.requires.2)))
+pub returns-then-is_empty : goal.returns-then-is_empty
+returns-then-is_empty c =
+    let row = c.args.leaves.now in
+    wrote_none c.args.out.now _ c.args.at (none-bytes c.args.epoch (as_nodes row) (nodes-length row ∙ eqb-true (length row) 0 (sym c.is_empty.ensures ∙ c.if-is_empty.true)))

@@ -7,11 +7,11 @@ use Rattle.write_proof.proofs.found.find.Goals as goal
 pub number_of-requires : goal.number_of-requires
 number_of-requires c =
     let a = c.args in
-    last-stands a.records.now a.name.now a.epoch a.count c.requires c.latest-at.result c.latest-at.ensures
+    last-stands a.records.now a.name.now a.epoch a.count c.requires c.latest-last.result c.latest-last.ensures
 
 pub returns : goal.returns
 returns c =
     let a = c.args in
-    let from = c.from_of.ensures ∙ ap (from_by a.history) c.latest-at.ensures in
-    let number = c.number_of.ensures ∙ ap (version_of a.records.now) c.latest-at.ensures in
+    let from = c.from_of.ensures ∙ ap (from_by a.kind) c.latest-last.ensures in
+    let number = c.number_of.ensures ∙ ap (version_of a.records.now) c.latest-last.ensures in
     λ i. record { from = from i; number = number i }

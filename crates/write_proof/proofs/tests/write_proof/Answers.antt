@@ -7,25 +7,25 @@ use Rattle.tested.proofs.First.{argument-good}
 use Rattle.tested.proofs.Order.{refused, passed}
 use Rattle.write_proof.specs.Rest.{clear_by, proof_by}
 use Rattle.write_proof.proofs.tests.write_proof.Goals as goal
-use Rattle.write_proof.proofs.tests.write_proof.Goals.{After-refusal-number}
+use Rattle.write_proof.proofs.tests.write_proof.Goals.{After-first_tests}
 
 -- what is asked of the name is that it is one
-tests : (c : After-refusal-number) → let a = c.args in Tested a.records.now a.heads.now a.state a.epoch (is_name a.name.now) c.refusal-number.result
+tests : (c : After-first_tests) → let a = c.args in Tested a.records.now a.heads.now a.state a.epoch (is_name a.name.now) c.first_tests.result
 tests c =
     let a = c.args in
-    subst (λ good. Tested a.records.now a.heads.now a.state a.epoch good c.refusal-number.result) c.is_name.ensures c.refusal-number.ensures
+    subst (λ good. Tested a.records.now a.heads.now a.state a.epoch good c.first_tests.result) c.is_name.ensures c.first_tests.ensures
 
-pub returns-then-number-ne0 : goal.returns-then-number-ne0
-returns-then-number-ne0 c =
+pub returns-in-Err : goal.returns-in-Err
+returns-in-Err c =
     let a = c.args in
-    sym (refused a.records.now a.heads.now a.state a.out.now (is_name a.name.now) a.epoch (clear_by a.history a.name.now a.epoch) (proof_by a.history a.heads.now a.name.now a.epoch) c.refusal-number.result (tests (goal.at.returns-then-number-ne0 c).After-refusal-number) c.if-number-ne0.true)
+    sym (refused a.records.now a.heads.now a.state a.out.now (is_name a.name.now) a.epoch (clear_by a.kind a.name.now a.epoch) (proof_by a.kind a.heads.now a.name.now a.epoch) c.first_tests.result (tests (goal.at.returns-in-Err c).After-first_tests) _ c.in-Err.is)
 
 pub write_shaped-requires : goal.write_shaped-requires
 write_shaped-requires c =
     let a = c.args in
-    ((tests (goal.at.write_shaped-requires c).After-refusal-number).sound c.if-number-ne0.false, name-short a.name.now (argument-good a.records.now a.heads.now a.state a.epoch (is_name a.name.now) c.refusal-number.result (tests (goal.at.write_shaped-requires c).After-refusal-number) c.if-number-ne0.false))
+    ((tests (goal.at.write_shaped-requires c).After-first_tests).sound c.in_default.is, name-short a.name.now (argument-good a.records.now a.heads.now a.state a.epoch (is_name a.name.now) c.first_tests.result (tests (goal.at.write_shaped-requires c).After-first_tests) c.in_default.is))
 
 pub returns : goal.returns
 returns c =
     let a = c.args in
-    c.write_shaped.ensures ∙ sym (passed a.records.now a.heads.now a.state a.out.now (is_name a.name.now) a.epoch (clear_by a.history a.name.now a.epoch) (proof_by a.history a.heads.now a.name.now a.epoch) c.refusal-number.result (tests (goal.at.returns c).After-refusal-number) c.if-number-ne0.false)
+    c.write_shaped.ensures ∙ sym (passed a.records.now a.heads.now a.state a.out.now (is_name a.name.now) a.epoch (clear_by a.kind a.name.now a.epoch) (proof_by a.kind a.heads.now a.name.now a.epoch) c.first_tests.result (tests (goal.at.returns c).After-first_tests) c.in_default.is)

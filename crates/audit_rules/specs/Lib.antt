@@ -1,2 +1,0 @@
--- What the contracts of the list rules cite.
-pub mod Tree

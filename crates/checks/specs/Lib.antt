@@ -1,0 +1,2 @@
+-- What the contract of the check cites.
+pub mod Checked

@@ -1,0 +1,2 @@
+-- Laws of rows of leaves.
+pub mod Rows

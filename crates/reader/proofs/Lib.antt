@@ -1,3 +1,0 @@
--- Laws of the walk over a proof's rows.
-pub mod Passed
-pub mod Turns
