@@ -2,7 +2,7 @@
 // row, brought into bit order there, and the digests below the root are kept in lent slots.
 #![tactic(auto)]
 
-ghost use Rattle.std.specs.Prelude.{◌≡◌, length};
+ghost use Rattle.std.specs.Prelude.{◌≡◌, length, replicate};
 ghost use Rattle.record.specs.Places.{records_in};
 ghost use Rattle.gather.specs.Gathered.{leaves_by};
 ghost use Rattle.forest.specs.Grown.{Ground, Grows};
@@ -21,13 +21,16 @@ pub struct Trees<'a> {
 }
 
 // Room for the leaves of a tree, two for each of 4,096 records.
-pub fn row() -> [u8; 557056] {
+pub fn row() -> [u8; 557056]
+    ensures { result ≡ replicate 557056 0 }
+{
     [0u8; 557056]
 }
 
 // Room for its slots.
 pub fn slots() -> [Children; 8192]
-    ensures { length result ≡ 8192 }
+    ensures room { length result ≡ 8192 }
+    ensures blank { result ≡ replicate 8192 (record { left = replicate 32 0; right = replicate 32 0 }) }
 {
     [Children {
         left: [0u8; 32],

@@ -5,7 +5,7 @@ use Rattle.write_proof.proofs.Same.{old-refused, ready, rest-is}
 use Rattle.write_proof.proofs.trees.write_beside.Goals as goal
 
 pub grow-requires : goal.grow-requires
-grow-requires c = record { stand = c.requires.0.shaped.stands; leaves = omega (arith, c.requires.0.few, c.row-row.type_inv); digests = omega (arith, c.requires.0.few, c.slots-slots.ensures) }
+grow-requires c = record { stand = c.requires.0.shaped.stands; leaves = omega (arith, c.requires.0.few, c.row-row.type_inv); digests = omega (arith, c.requires.0.few, c.slots-slots.ensures.room) }
 
 pub returns-in_default : goal.returns-in_default
 returns-in_default c =
