@@ -6,6 +6,7 @@ use Prim.Native.Nat.{ℕ, zero, suc, ◌*◌, ◌/◌, ◌≤◌, ◌<◌}
 use native.Mathlib.Omega.{arith}
 use lib.ListN.{length, get_or, set, take, drop, length-drop, length-map}
 use lib.Seq.{length-take-le, take_all}
+use Rattle.std.specs.List.{flat_map}
 use Rattle.std.specs.Simd.{first_chunks}
 use Rattle.std.proofs.lemmas.List.{take-map, drop-map, map-append, get_or-map}
 use Rattle.paper.specs.Lists.{◌∈◌, All}
@@ -13,7 +14,7 @@ use Rattle.paper.specs.Bytes.{Bytes, Bytewise}
 use Rattle.paper.specs.Strings.{Node, leaf, inner, nothing}
 use Rattle.paper.specs.Tree.{key}
 use Rattle.paper.specs.Level.{entry_leaf, leaves_in, leaves_of}
-use Rattle.paper.proofs.Lists.{all_in, in-all, all_take, all_drop}
+use Rattle.paper.proofs.Lists.{all_in, in-all, all_take, all_drop, all_left, all_right}
 use Rattle.paper.proofs.Bytes.{bits_of-length, number_lt}
 use Rattle.paper.proofs.Honest.{LeafSized}
 use Rattle.ranges.proofs.Slices.{length_part}
@@ -84,18 +85,24 @@ pub chunks-whole : (n : ℕ) (s : Bytes) → n * 68 ≤ length s → Whole (firs
 chunks-whole zero s h = tt
 chunks-whole (suc n) s h = (length-take-le 68 s (omega arith), chunks-whole n (drop 68 s) (omega (arith, length-drop 68 s)))
 
+fits-entry : (e : Bytes) → 68 ≤ length e → Bytewise e → LeafFits (entry_leaf e)
+fits-entry s h w =
+    let e : length (take 4 (drop 64 s)) ≡ 4 = length_part s 64 4 (omega arith) in (
+      omega (arith, bits_of-length (take 32 s), length-take-le 32 s (omega arith)),
+      record { size = length_part s 32 32 (omega arith); bytes = all_take _ 32 (drop 32 s) (all_drop _ 32 s w) },
+      rw e at (number_lt (take 4 (drop 64 s)) (all_take _ 4 (drop 64 s) (all_drop _ 64 s w))),
+    )
+
 pub leaves-sized : (n : ℕ) (s : Bytes) → n * 68 ≤ length s → Bytewise s → Sized (leaves_in n s)
 unfolding leaves_in
 leaves-sized zero s h w = tt
-leaves-sized (suc n) s h w =
-    let e : length (take 4 (drop 64 s)) ≡ 4 = length_part s 64 4 (omega arith) in (
-      (
-        omega (arith, bits_of-length (take 32 s), length-take-le 32 s (omega arith)),
-        record { size = length_part s 32 32 (omega arith); bytes = all_take _ 32 (drop 32 s) (all_drop _ 32 s w) },
-        rw e at (number_lt (take 4 (drop 64 s)) (all_take _ 4 (drop 64 s) (all_drop _ 64 s w))),
-      ),
-      leaves-sized n (drop 68 s) (omega (arith, length-drop 68 s)) (all_drop _ 68 s w),
-    )
+leaves-sized (suc n) s h w = (fits-entry s (omega arith) w, leaves-sized n (drop 68 s) (omega (arith, length-drop 68 s)) (all_drop _ 68 s w))
+
+-- leaves whose bytes, one behind the other, are bytes
+pub flat-sized : (row : List Bytes) → Whole row → Bytewise (flat_map (λ x. x) row) → Sized (as_nodes row)
+flat-sized [] h w = tt
+flat-sized (e ∷ row) h w =
+    (fits-entry e (omega (arith, h.0)) (all_left _ e (flat_map (λ x. x) row) w), flat-sized row h.1 (all_right _ e (flat_map (λ x. x) row) w))
 
 -- a row by its bytes
 pub row-count : (row : List Bytes) (s : Bytes) → as_nodes row ≡ leaves_of s → length row ≡ length s / 68

@@ -21,6 +21,13 @@ fn are_bytes(s: &[u8])
     ensures { Bytewise s.now }
 {}
 
+// What the type of a row of leaves says, for the proofs of those that are lent one: there is nothing to run.
+pub fn are_leaves(leaves: &[Leaf])
+    ensures { Sized (as_nodes leaves.now) }
+{
+    are_bytes(leaves.as_flattened());
+}
+
 // The leaves that stand one behind the other in a row of bytes.
 pub fn leaves_of(row: &mut [u8]) -> &mut [Leaf]
     ensures leaves { as_nodes result.now ≡ leaves_of row.old }
