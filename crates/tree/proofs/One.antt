@@ -1,4 +1,4 @@
--- The contracts of `split`, `fork_of` and `store` leave one outcome. Assumes nothing.
+-- The contracts of `split`, `fork_of`, `store` and `StoredTree::store` leave one outcome. Assumes nothing.
 use mathlib.Core.Path.{◌≡◌, sym, ap, ◌∙◌}
 use mathlib.Core.Logic.{by_cases}
 use mathlib.Core.Bool.{true, false}
@@ -8,13 +8,16 @@ use native.Mathlib.Omega.{arith}
 use native.Mathlib.Decide.{dec_lt}
 use lib.ListN.{length, take, drop, get_or, length-drop, get_or-append}
 use lib.Seq.{get_or-take, get_or-drop, length-take-le}
+use Rattle.paper.specs.Bytes.{Bytes}
 use Rattle.paper.specs.Bits.{Pfx}
 use Rattle.paper.specs.Strings.{Node, nothing}
 use Rattle.paper.specs.Tree.{key, digest, top, build}
 use Rattle.paper.proofs.Lists.{not-both, all_get_d}
+use Rattle.leaf_row.specs.Row.{as_nodes}
 use Rattle.tree.specs.Stored.{Range, Cut, Forked, Laid}
 use Rattle.tree.specs.declared.Children.{Children}
 use Rattle.tree.specs.declared.Sides.{Sides}
+use Rattle.tree.specs.declared.StoredTree.{StoredTree}
 use Rattle.tree.proofs.Rising.{bit_at}
 
 module _ (k : ℕ) (S : List Node) (m : ℕ) (c : Cut k S m) where
@@ -59,3 +62,8 @@ laid_one S old a b q r x y =
     let left : q.children.left ≡ r.children.left = x.stored.left.node ∙ ap (λ m. digest (top (build 256 (take m S)))) e ∙ sym y.stored.left.node in
     let right : q.children.right ≡ r.children.right = x.stored.right.node ∙ ap (λ m. digest (top (build 256 (drop m S)))) e ∙ sym y.stored.right.node in
     (x.whole ∙ rw e (sym y.whole), λ i. record { split = e i; children = record { left = left i; right = right i } })
+
+-- and as `StoredTree::store` gives it: the leaves as well, which are those that it was lent
+pub kept-one : (row : List Bytes) (old : List Children) (t u : StoredTree) → t.leaves.now ≡ row → Laid (as_nodes row) old t.slots.now t.sides → u.leaves.now ≡ row → Laid (as_nodes row) old u.slots.now u.sides
+    → (t.leaves.now ≡ u.leaves.now) × (t.slots.now ≡ u.slots.now) × (t.sides ≡ u.sides)
+kept-one row old t u a x b y = let (e, f) = laid_one (as_nodes row) old t.slots.now u.slots.now t.sides u.sides x y in (a ∙ sym b, e, f)

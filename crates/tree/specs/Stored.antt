@@ -88,3 +88,8 @@ pub record Laid (S : List Node) (old slots : List Children) (r : Sides) : Type 0
 pub record Kept (t : StoredTree) : Type 0 where
   pub sorted : Sorted (as_nodes t.leaves.now)
   pub stored : Stored (as_nodes t.leaves.now) t.slots.now t.sides
+
+-- the same of a tree that is lent, of whose leaves the type of a row says all but their order
+pub record Lent (t : StoredTree) : Type 0 where
+  pub rises : rising (as_nodes t.leaves.now) ≡ true
+  pub stored : Stored (as_nodes t.leaves.now) t.slots.now t.sides

@@ -4,15 +4,15 @@
 // Each side of the root has as many slots as leaves, of which the last is spare.
 #![tactic(auto)]
 
-ghost use Rattle.std.specs.Prelude.{◌≡◌, cond, [], ◌+◌, ◌≤◌, length, take};
+ghost use Rattle.std.specs.Prelude.{◌≡◌, true, cond, [], ◌+◌, ◌≤◌, length, take};
 ghost use Rattle.paper.specs.Strings as S;
 ghost use Rattle.paper.specs.Tree as T;
-ghost use Rattle.paper.specs.Level.{entry_leaf};
+ghost use Rattle.paper.specs.Level.{entry_leaf, rising};
 ghost use Rattle.leaf_row.specs.Row.{as_nodes};
-ghost use Rattle.tree.specs.Stored.{Sorted, Range, Part, Cut, Forked, BelowLaid, SideLaid, Laid, Kept};
+ghost use Rattle.tree.specs.Stored.{Sorted, Range, Part, Cut, Forked, BelowLaid, SideLaid, Laid, Kept, Lent};
 
 use bits::{first_difference, label_bit, prefix_of};
-use leaf_row::{Leaf, label_of};
+use leaf_row::{Leaf, are_leaves, label_of};
 use nodes::{inner, leaf, nothing};
 use ranges::digest_at;
 use words::read32;
@@ -25,9 +25,11 @@ pub struct Children {
 }
 
 impl Children {
-    // The sibling of a label's step: the digest of the side that the label does not take.
+    // The sibling of a label's step: the digest of the side that the label does not take, where it lies in the slot.
     pub fn sibling(&self, right: bool) -> &[u8; 32]
-        ensures { result.now ≡ cond right self.now.left self.now.right }
+        ensures value { result.now ≡ cond right self.now.left self.now.right }
+        ensures block { result.ref_ptr.0 ≡ self.entry.ref_ptr.0 }
+        ensures offset { result.ref_ptr.1 ≡ self.entry.ref_ptr.1 + cond right 0 32 }
     {
         if right { &self.left } else { &self.right }
     }
@@ -51,10 +53,12 @@ pub struct StoredTree<'a> {
 impl<'a> StoredTree<'a> {
     // Stores the tree over leaves, in as many slots.
     pub fn store(leaves: &'a [Leaf], slots: &'a mut [Children]) -> StoredTree<'a>
-        requires { Sorted (as_nodes leaves.now) × (length slots.old ≡ length leaves.now) }
+        requires { (rising (as_nodes leaves.now) ≡ true) × (length slots.old ≡ length leaves.now) }
         ensures tree { Kept result }
         ensures leaves { result.leaves.now ≡ leaves.now }
+        ensures laid { Laid (as_nodes leaves.now) slots.old result.slots.now result.sides }
     {
+        are_leaves(leaves);
         let sides = store(leaves, slots);
         StoredTree {
             leaves,
@@ -66,8 +70,9 @@ impl<'a> StoredTree<'a> {
     // "The root has prefix length 0 and is always an inner node.": the node over the two sides, and of a tree as `store` leaves it the root.
     pub fn root(&self) -> [u8; 32]
         ensures over { result ≡ T.digest (S.inner [] self.now.sides.children.left self.now.sides.children.right) }
-        ensures kept { Kept self.now → result ≡ T.root_digest (as_nodes self.now.leaves.now) }
+        ensures kept { Lent self.now → result ≡ T.root_digest (as_nodes self.now.leaves.now) }
     {
+        are_leaves(self.leaves);
         let Children { left, right } = self.sides.children;
         inner(0, &[0u8; 32], &left, &right)
     }
@@ -92,7 +97,7 @@ fn leaf_digest(one: &Leaf) -> [u8; 32]
 // "the bit after the prefix sends each label left (0) or right (1)": how many of the leaves, which share k bits, go left at bit k. In
 // bit order those stand first.
 pub fn split(leaves: &[Leaf], k: usize) -> usize
-    requires { Sorted (as_nodes leaves.now) × Range k (as_nodes leaves.now) }
+    requires { (rising (as_nodes leaves.now) ≡ true) × Range k (as_nodes leaves.now) }
     ensures { Cut k (as_nodes leaves.now) result }
 {
     leaves.partition_point(|leaf| !label_bit(label_of(leaf), k))
@@ -100,7 +105,7 @@ pub fn split(leaves: &[Leaf], k: usize) -> usize
 
 // Where two or more leaves part: how many bits they share, and how many of them go left at the next one.
 pub fn fork_of(leaves: &[Leaf]) -> Fork
-    requires { (2 ≤ length leaves.now) × Sorted (as_nodes leaves.now) }
+    requires { (2 ≤ length leaves.now) × (rising (as_nodes leaves.now) ≡ true) }
     ensures { Forked (as_nodes leaves.now) result.length result.left }
 {
     let last = leaves.len() - 1;
@@ -158,9 +163,10 @@ fn side(leaves: &[Leaf], slots: &mut [Children]) -> [u8; 32]
 
 // Stores the tree over leaves: the two sides of the root, and their slots.
 pub fn store(leaves: &[Leaf], slots: &mut [Children]) -> Sides
-    requires { Sorted (as_nodes leaves.now) × (length slots.old ≡ length leaves.now) }
+    requires { (rising (as_nodes leaves.now) ≡ true) × (length slots.old ≡ length leaves.now) }
     ensures { Laid (as_nodes leaves.now) slots.old slots.new result }
 {
+    are_leaves(leaves);
     let split = split(leaves, 0);
     let (low, high) = leaves.split_at(split);
     let (low_slots, high_slots) = slots.split_at_mut(split);

@@ -25,7 +25,7 @@ returns-then-leaves-eq1 t c =
     below-one-leaf (as_nodes row) c.leaf_digest.result c.args.slots.now (n ∙ one) (c.leaf_digest.ensures ∙ ap digest (sym (node_at row 0 (omega arith)))) (c.requires.1 ∙ sym n)
 
 pub fork_of-length-requires : goal.fork_of-length-requires
-fork_of-length-requires t c = (omega (arith, c.requires.0.some, nodes-length c.args.leaves.now), c.requires.0.sorted)
+fork_of-length-requires t c = (omega (arith, c.requires.0.some, nodes-length c.args.leaves.now), c.requires.0.sorted.rises)
 
 abbrev leaves : (t : ℕ) → After-fork_of-length t → List Node
 leaves t c = as_nodes c.args.leaves.now

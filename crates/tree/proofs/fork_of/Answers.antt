@@ -8,8 +8,8 @@ use Rattle.paper.specs.Bits.{lcp, first_difference}
 use Rattle.paper.specs.Strings.{Node, nothing}
 use Rattle.paper.specs.Tree.{key}
 use Rattle.bit_order.proofs.Order.{rising-ordered}
-use Rattle.leaf_row.specs.Row.{as_nodes}
-use Rattle.leaf_row.proofs.Rows.{nodes-length, sized-long}
+use Rattle.leaf_row.specs.Row.{as_nodes, Long}
+use Rattle.leaf_row.proofs.Rows.{nodes-length, nodes-long, whole-by}
 use Rattle.tree.specs.Stored.{Range, Cut, Forked}
 use Rattle.tree.proofs.Step.{shared-range, forked}
 use Rattle.tree.proofs.Halves.{ends-differ}
@@ -18,6 +18,9 @@ use Rattle.tree.proofs.fork_of.Goals.{After-first_difference-length}
 
 abbrev leaves : (c : After-first_difference-length) → List Node
 leaves c = as_nodes c.args.leaves.now
+
+long : (c : After-first_difference-length) → Long (leaves c)
+long c = nodes-long c.args.leaves.now (whole-by c.args.leaves.now c.told-leaves)
 
 two : (c : After-first_difference-length) → 2 ≤ length (leaves c)
 two c = omega (arith, nodes-length c.args.leaves.now, c.requires.0)
@@ -29,13 +32,14 @@ shares c =
 
 pub split-requires : goal.split-requires
 split-requires c =
-    let S = leaves c in
+    let d = (goal.at.split-requires c).After-first_difference-length in
+    let S = leaves d in
     let w = c.requires.1 in
-    (w, subst (λ k. Range k S) (sym (shares c)) (shared-range S (rising-ordered S w.rises) (sized-long S w.sized) (two c)))
+    (w, subst (λ k. Range k S) (sym (shares d)) (shared-range S (rising-ordered S w) (long d) (two d)))
 
 pub returns : goal.returns
 returns c =
     let d = (goal.at.returns c).After-first_difference-length in
     let S = leaves d in
     let w = c.requires.1 in
-    subst (λ k. Cut k S c.split.result → Forked S k c.split.result) (sym (shares d)) (forked S (rising-ordered S w.rises) (sized-long S w.sized) (two d) c.split.result) c.split.ensures
+    subst (λ k. Cut k S c.split.result → Forked S k c.split.result) (sym (shares d)) (forked S (rising-ordered S w) (long d) (two d) c.split.result) c.split.ensures

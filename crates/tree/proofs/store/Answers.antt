@@ -6,6 +6,7 @@ use lib.ListN.{take, drop}
 use Rattle.paper.specs.Strings.{Node}
 use Rattle.leaf_row.specs.Row.{as_nodes}
 use Rattle.leaf_row.proofs.Rows.{nodes-length, nodes-take, nodes-drop}
+use Rattle.tree.specs.Stored.{Sorted}
 use Rattle.tree.proofs.Step.{root-range}
 use Rattle.tree.proofs.Halves.{RootHalves, root-halves, before-sorted, behind-sorted}
 use Rattle.tree.proofs.Slots.{sides-laid}
@@ -15,8 +16,11 @@ use Rattle.tree.proofs.store.Goals.{After-split-split, After-split_at}
 abbrev leaves : After-split-split → List Node
 leaves c = as_nodes c.args.leaves.now
 
+sorted : (c : After-split-split) → Sorted (leaves c)
+sorted c = record { sized = c.are_leaves.ensures; rises = c.requires.0 }
+
 cut : (c : After-split-split) → RootHalves (leaves c) c.split-split.result
-cut c = root-halves (leaves c) c.split-split.result c.requires.0 c.split-split.ensures
+cut c = root-halves (leaves c) c.split-split.result (sorted c) c.split-split.ensures
 
 pub split-split-requires : goal.split-split-requires
 split-split-requires c = (c.requires.0, root-range _)
@@ -34,13 +38,13 @@ pub side-requires : goal.side-requires
 side-requires c =
     let d = (goal.at.side-requires c).After-split-split in
     let e = low (goal.at.side-requires c).After-split_at in
-    (rw e (before-sorted (leaves d) c.requires.0 c.split-split.result), rw e (cut d).left, c.split_at_mut-low_slots.ensures.front_len ∙ sym c.split_at.ensures.front_len)
+    (rw e (before-sorted (leaves d) (sorted d) c.split-split.result), rw e (cut d).left, c.split_at_mut-low_slots.ensures.front_len ∙ sym c.split_at.ensures.front_len)
 
 pub side-requires-2 : goal.side-requires-2
 side-requires-2 c =
     let d = (goal.at.side-requires-2 c).After-split-split in
     let e = high (goal.at.side-requires-2 c).After-split_at in
-    (rw e (behind-sorted (leaves d) c.requires.0 c.split-split.result), rw e (cut d).right, omega (arith, c.split_at_mut-low_slots.ensures.back_len, c.split_at.ensures.back_len, c.requires.1))
+    (rw e (behind-sorted (leaves d) (sorted d) c.split-split.result), rw e (cut d).right, omega (arith, c.split_at_mut-low_slots.ensures.back_len, c.split_at.ensures.back_len, c.requires.1))
 
 pub returns : goal.returns
 returns c =

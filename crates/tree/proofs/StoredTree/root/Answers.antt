@@ -9,4 +9,4 @@ pub returns : goal.returns
 unfolding pack from_bits
 returns c =
     let t = c.args.self.now in
-    record { over = c.inner.ensures; kept = λ k. c.inner.ensures ∙ stored-root (as_nodes t.leaves.now) t.slots.now t.sides k.sorted k.stored }
+    record { over = c.inner.ensures; kept = λ k. c.inner.ensures ∙ stored-root (as_nodes t.leaves.now) t.slots.now t.sides (record { sized = c.are_leaves.ensures; rises = k.rises }) k.stored }
