@@ -2,19 +2,19 @@
 // goes down the side of the label's bit while the label has the node's prefix.
 #![tactic(auto)]
 
-ghost use Rattle.std.specs.Prelude.{◌≡◌, ◌+◌, ◌≤◌, length, take};
+ghost use Rattle.std.specs.Prelude.{◌≡◌, true, ◌+◌, ◌≤◌, length, take};
 ghost use Rattle.paper.specs.Bits.{starts, bits_of};
 ghost use Rattle.paper.specs.Tree.{key, one, build, root};
 ghost use Rattle.paper.specs.Path as P;
 ghost use Rattle.paper.specs.Fields.{path_field};
 ghost use Rattle.paper.specs.Table.{holds};
-ghost use Rattle.paper.specs.Level.{entry_leaf};
+ghost use Rattle.paper.specs.Level.{entry_leaf, rising};
 ghost use Rattle.leaf_row.specs.Row.{as_nodes};
 ghost use Rattle.tree.specs.Stored.{Sorted, Range, Part};
 ghost use Rattle.tree_path.specs.Measured.{way_of, kind_number, end_size};
 
 use bits::{first_difference, label_bit};
-use leaf_row::{Leaf, label_of};
+use leaf_row::{Leaf, are_leaves, label_of};
 use ranges::same;
 use tree::{Fork, fork_of, split};
 
@@ -130,9 +130,10 @@ fn way_side(leaves: &[Leaf], label: &[u8; 32]) -> Way
 
 // The way down from the root.
 pub fn way_of(leaves: &[Leaf], label: &[u8; 32]) -> Way
-    requires { Sorted (as_nodes leaves.now) }
+    requires { rising (as_nodes leaves.now) ≡ true }
     ensures { result ≡ way_of (bits_of label.now) (root (as_nodes leaves.now)) }
 {
+    are_leaves(leaves);
     let (low, high) = leaves.split_at(split(leaves, 0));
     let taken = if label_bit(label, 0) { high } else { low };
     way_side(taken, label).stepped()
@@ -140,17 +141,19 @@ pub fn way_of(leaves: &[Leaf], label: &[u8; 32]) -> Way
 
 // How many bytes a label's path has.
 pub fn path_length(leaves: &[Leaf], label: &[u8; 32]) -> usize
-    requires { Sorted (as_nodes leaves.now) }
+    requires { rising (as_nodes leaves.now) ≡ true }
     ensures { result ≡ length (path_field.bytes (P.way (bits_of label.now) (root (as_nodes leaves.now)))) }
 {
+    are_leaves(leaves);
     let way = way_of(leaves, label);
     3 + way.steps * 34 + way.kind.size()
 }
 
 // Whether a leaf has the label: "two leaves of a needed tree share a label, or a label to be shown absent is there".
 pub fn is_there(leaves: &[Leaf], label: &[u8; 32]) -> bool
-    requires { Sorted (as_nodes leaves.now) }
+    requires { rising (as_nodes leaves.now) ≡ true }
     ensures { result ≡ holds (bits_of label.now) (as_nodes leaves.now) }
 {
+    are_leaves(leaves);
     matches!(way_of(leaves, label).kind, EndKind::This)
 }

@@ -25,7 +25,7 @@ returns-then-leaves-eq1 t c =
     c.leaf_way.ensures ∙ ap (way_of (bits_of c.args.label.now)) (ap one (sym (node_at row 0 (omega arith))) ∙ sym (single (as_nodes row) (nodes-length row ∙ alone)))
 
 pub fork_of-length-requires : goal.fork_of-length-requires
-fork_of-length-requires t c = (omega (arith, c.requires.some, nodes-length c.args.leaves.now), c.requires.sorted)
+fork_of-length-requires t c = (omega (arith, c.requires.some, nodes-length c.args.leaves.now), c.requires.sorted.rises)
 
 abbrev leaves : (t : ℕ) → After-fork_of-length t → List Node
 leaves t c = as_nodes c.args.leaves.now

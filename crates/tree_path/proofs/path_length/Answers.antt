@@ -15,7 +15,7 @@ use Rattle.tree_path.proofs.path_length.Goals as goal
 use Rattle.tree_path.proofs.path_length.Goals.{After-way_of-way}
 
 fits : (c : After-way_of-way) → path_field.Fits (way (bits_of c.args.label.now) (root (as_nodes c.args.leaves.now)))
-fits c = way-in-layout (as_nodes c.args.leaves.now) c.args.label.now c.requires c.told-label
+fits c = way-in-layout (as_nodes c.args.leaves.now) c.args.label.now (record { sized = c.are_leaves.ensures; rises = c.requires }) c.told-label
 
 few : (c : After-way_of-way) → c.way_of-way.result.steps ≤ 256
 few c = omega (arith, ap (λ v. v.steps) c.way_of-way.ensures, (path-fits _ (fits c)).most)

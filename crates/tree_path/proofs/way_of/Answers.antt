@@ -8,6 +8,7 @@ use Rattle.paper.specs.Tree.{build}
 use Rattle.paper.proofs.Bytes.{bits_of-length}
 use Rattle.leaf_row.specs.Row.{as_nodes}
 use Rattle.leaf_row.proofs.Rows.{nodes-length, nodes-take, nodes-drop}
+use Rattle.tree.specs.Stored.{Sorted}
 use Rattle.tree.proofs.Step.{root-range}
 use Rattle.tree.proofs.Halves.{RootHalves, root-halves, taken, build-taken, taken-sorted}
 use Rattle.tree_path.specs.Measured.{way_of}
@@ -18,8 +19,11 @@ use Rattle.tree_path.proofs.way_of.Goals.{After-split, Joined-label_bit, then-la
 abbrev leaves : After-split → List Node
 leaves c = as_nodes c.args.leaves.now
 
+sorted : (c : After-split) → Sorted (leaves c)
+sorted c = record { sized = c.are_leaves.ensures; rises = c.requires }
+
 cut : (c : After-split) → RootHalves (leaves c) c.split.result
-cut c = root-halves (leaves c) c.split.result c.requires c.split.ensures
+cut c = root-halves (leaves c) c.split.result (sorted c) c.split.ensures
 
 pub split-requires : goal.split-requires
 split-requires c = (c.requires, root-range _)
@@ -36,13 +40,13 @@ side-is c = elim c.if-label_bit.branch [
 pub way_side-requires : goal.way_side-requires
 way_side-requires c =
     let d = (goal.at.way_side-requires c).After-split in
-    rw (side-is (goal.at.way_side-requires c).Joined-label_bit) (taken-sorted (leaves d) c.split.result c.requires (cut d) c.label_bit.result)
+    rw (side-is (goal.at.way_side-requires c).Joined-label_bit) (taken-sorted (leaves d) c.split.result (sorted d) (cut d) c.label_bit.result)
 
 pub stepped-requires : goal.stepped-requires
 stepped-requires c =
     let d = (goal.at.stepped-requires c).After-split in
     let T = taken c.label_bit.result c.split.result (leaves d) in
-    let w = taken-sorted (leaves d) c.split.result c.requires (cut d) c.label_bit.result in
+    let w = taken-sorted (leaves d) c.split.result (sorted d) (cut d) c.label_bit.result in
     let e = c.way_side.ensures ∙ ap (λ S. way_of (bits_of c.args.label.now) (build 256 S)) (side-is (goal.at.stepped-requires c).Joined-label_bit) in
     omega (arith, ap (λ v. v.steps) e, steps-few 1 T (bits_of c.args.label.now) w.0 w.1 (omega arith) (omega (arith, bits_of-length c.args.label.now, c.told-label)))
 
