@@ -11,9 +11,10 @@ use Rattle.paper.specs.Bytes.{Bytes}
 use Rattle.paper.specs.Strings.{Node, nothing, inner, nothing_string}
 use Rattle.paper.specs.Tree.{key, digest, top, root_digest}
 use Rattle.leaf_row.proofs.Rows.{sized-long}
-use Rattle.tree.specs.Stored.{flat, Sorted, Cut, BelowLaid, SideLaid, Stored, Laid}
+use Rattle.tree.specs.Stored.{flat, Sorted, Cut, BelowLaid, SideLaid, Stored, Laid, Kept, Lent}
 use Rattle.tree.specs.declared.Children.{Children}
 use Rattle.tree.specs.declared.Sides.{Sides}
+use Rattle.tree.specs.declared.StoredTree.{StoredTree}
 use Rattle.tree.proofs.Leaves.{bare, single}
 use Rattle.tree.proofs.Step.{root-step}
 use Rattle.tree.proofs.Halves.{Halves}
@@ -88,3 +89,7 @@ pub stored-root : (S : List Node) (slots : List Children) (r : Sides) → Sorted
 stored-root S slots r w h =
     let t = (root-step S r.split (sized-long S w.sized) h.cut).tree in
     ap₂ (λ a b. digest (inner [] a b)) h.left.node h.right.node ∙ ap (λ x. digest (top x)) (sym t)
+
+-- a stored tree may be lent
+pub kept-lent : (t : StoredTree) → Kept t → Lent t
+kept-lent t k = record { rises = k.sorted.rises; stored = k.stored }

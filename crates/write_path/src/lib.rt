@@ -10,12 +10,12 @@ ghost use Rattle.paper.specs.Tree.{build, root};
 ghost use Rattle.paper.specs.Path as P;
 ghost use Rattle.paper.specs.Fields.{path_field};
 ghost use Rattle.leaf_row.specs.Row.{as_nodes};
-ghost use Rattle.tree.specs.Stored.{flat, Sorted, Range, Part, Kept};
+ghost use Rattle.tree.specs.Stored.{flat, Sorted, Range, Part, Kept, Lent};
 ghost use Rattle.tree_path.specs.Measured.{way_bytes};
 ghost use Rattle.path_fields.specs.Written.{Wrote};
 
 use bits::label_bit;
-use leaf_row::Leaf;
+use leaf_row::{Leaf, are_leaves};
 use path_fields::{write_leaf, write_node, write_step};
 use tree::{Children, Fork, Sides, StoredTree, fork_of};
 use tree_path::{EndKind, has_prefix, way_of};
@@ -95,9 +95,10 @@ fn write_root(tree: &StoredTree<'_>, label: &[u8; 32], out: &mut [u8], at: usize
 
 // Writes a label's path at `at`, and answers the place behind it.
 pub fn write_path(tree: &StoredTree<'_>, label: &[u8; 32], out: &mut [u8], at: usize) -> usize
-    requires { Kept tree.now × (at + length (path_field.bytes (P.way (bits_of label.now) (root (as_nodes tree.now.leaves.now)))) ≤ length out.old) }
+    requires { Lent tree.now × (at + length (path_field.bytes (P.way (bits_of label.now) (root (as_nodes tree.now.leaves.now)))) ≤ length out.old) }
     ensures { Wrote out.old at (path_field.bytes (P.way (bits_of label.now) (root (as_nodes tree.now.leaves.now)))) out.new result }
 {
+    are_leaves(tree.leaves);
     let way = way_of(tree.leaves, label);
     write16(out, at, way.steps as u16);
     write_root(tree, label, out, at + 2)

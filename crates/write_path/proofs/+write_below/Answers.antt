@@ -45,7 +45,7 @@ returns-then-leaves-eq1 t c =
     subst (λ x. Wrote c.args.out.now c.args.at x c.write_leaf.new.out c.write_leaf.result) (sym (alone t (goal.at.returns-then-leaves-eq1 t c).Then-leaves-eq1)) c.write_leaf.ensures
 
 pub fork_of-length-requires : goal.fork_of-length-requires
-fork_of-length-requires t c = (omega (arith, c.requires.0.some, nodes-length c.args.leaves.now), c.requires.0.sorted)
+fork_of-length-requires t c = (omega (arith, c.requires.0.some, nodes-length c.args.leaves.now), c.requires.0.sorted.rises)
 
 -- how many bits the leaves share, and how many of them go left
 abbrev bits : (t : ℕ) → After-fork_of-length t → ℕ
@@ -147,7 +147,7 @@ step : (t : ℕ) (c : After-write_step-next t) → let d = (goal.at.After-write_
 step t c =
     let d = (goal.at.After-write_step-next t c).After-fork_of-length in
     let b = c.label_bit-right.result in
-    let e = c.sibling.ensures ∙ ap (λ (s : Children). cond b s.left s.right) (slot t d (record { left = []; right = [] })) ∙ sibling b (low t d) (high t d) in
+    let e = c.sibling.ensures.value ∙ ap (λ (s : Children). cond b s.left s.right) (slot t d (record { left = []; right = [] })) ∙ sibling b (low t d) (high t d) in
     subst (λ y. Wrote c.args.out.now c.args.at (step_field.bytes (record { length = bits t d; sibling = y })) c.write_step-next.new.out c.write_step-next.result) e c.write_step-next.ensures
 
 pub split_at-requires : goal.split_at-requires

@@ -43,7 +43,7 @@ write_step-next-requires c =
 -- the step, as it was written
 step : (c : After-write_step-next) → let t = c.args.tree.now in
     Wrote c.args.out.now c.args.at (step_field.bytes (record { length = 0; sibling = cond c.label_bit-right.result t.sides.children.left t.sides.children.right })) c.write_step-next.new.out c.write_step-next.result
-step c = subst (λ y. Wrote c.args.out.now c.args.at (step_field.bytes (record { length = 0; sibling = y })) c.write_step-next.new.out c.write_step-next.result) c.sibling.ensures c.write_step-next.ensures
+step c = subst (λ y. Wrote c.args.out.now c.args.at (step_field.bytes (record { length = 0; sibling = y })) c.write_step-next.new.out c.write_step-next.result) c.sibling.ensures.value c.write_step-next.ensures
 
 pub split_at-requires : goal.split_at-requires
 split_at-requires c =
