@@ -3,7 +3,7 @@
 ghost use Rattle.std.specs.Prelude.{◌≡◌, ◌≤◌, length};
 ghost use Rattle.paper.specs.Bits.{bits_of};
 ghost use Rattle.paper.specs.Level.{entries_most};
-ghost use Rattle.leaf_row.specs.Row.{as_nodes, Sized};
+ghost use Rattle.leaf_row.specs.Row.{as_nodes};
 ghost use Rattle.level.specs.Rooted.{path_over};
 
 use crate::root::slots;
@@ -21,7 +21,7 @@ pub(crate) fn path_over(
     absent: bool,
     out: &mut [u8],
 ) -> TreeAnswer
-    requires { Sized (as_nodes leaves.old) × (length leaves.old ≤ entries_most) }
+    requires { length leaves.old ≤ entries_most }
     ensures { record { answer = result; out = out.new } ≡ path_over (as_nodes leaves.old) (bits_of label.now) absent out.old }
 {
     if !arrange(leaves) {

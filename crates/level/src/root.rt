@@ -1,7 +1,7 @@
 // The root over leaves in any order: they are brought into bit order, and the tree is built over them once.
 ghost use Rattle.std.specs.Prelude.{◌≡◌, ◌≤◌, length};
 ghost use Rattle.paper.specs.Level.{entries_most};
-ghost use Rattle.leaf_row.specs.Row.{as_nodes, Sized};
+ghost use Rattle.leaf_row.specs.Row.{as_nodes};
 ghost use Rattle.level.specs.Rooted.{Roots};
 
 use arrange::arrange;
@@ -20,7 +20,7 @@ pub(crate) fn slots() -> [Children; 8192]
 
 // The root over the leaves, where no two of them share a label.
 pub fn root_of(leaves: &mut [Leaf]) -> Option<[u8; 32]>
-    requires { Sized (as_nodes leaves.old) × (length leaves.old ≤ entries_most) }
+    requires { length leaves.old ≤ entries_most }
     ensures { Roots (as_nodes leaves.old) result }
 {
     if !arrange(leaves) {

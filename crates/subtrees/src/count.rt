@@ -1,13 +1,13 @@
 // How many records the list of an audit has.
-ghost use Rattle.std.specs.Prelude.{◌≡◌, length};
+ghost use Rattle.std.specs.Prelude.{◌≡◌, true, length};
 ghost use Rattle.paper.specs.Lists.{some};
 ghost use Rattle.paper.specs.Tree.{one, build, root};
 ghost use Rattle.paper.specs.Write.{has_new, subtrees, below_root};
-ghost use Rattle.paper.specs.Level.{entry_leaf};
+ghost use Rattle.paper.specs.Level.{entry_leaf, rising};
 ghost use Rattle.leaf_row.specs.Row.{as_nodes};
 ghost use Rattle.tree.specs.Stored.{Sorted, Range, Part};
 
-use leaf_row::Leaf;
+use leaf_row::{Leaf, are_leaves};
 use tree::{Fork, fork_of, split};
 use words::read32;
 
@@ -54,9 +54,10 @@ fn count_side(leaves: &[Leaf], epoch: u32) -> usize
 
 // The records of the whole tree over leaves in bit order: both sides of the root, which is not opened itself.
 pub fn list_length(leaves: &[Leaf], epoch: u32) -> usize
-    requires { Sorted (as_nodes leaves.now) }
+    requires { rising (as_nodes leaves.now) ≡ true }
     ensures { result ≡ length (below_root epoch (root (as_nodes leaves.now))) }
 {
+    are_leaves(leaves);
     let (low, high) = leaves.split_at(split(leaves, 0));
     count_side(low, epoch) + count_side(high, epoch)
 }

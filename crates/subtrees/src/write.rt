@@ -6,12 +6,12 @@ ghost use Rattle.paper.specs.Audit.{list_field};
 ghost use Rattle.paper.specs.Write.{has_new, below_root};
 ghost use Rattle.paper.specs.Level.{entry_leaf};
 ghost use Rattle.leaf_row.specs.Row.{as_nodes};
-ghost use Rattle.tree.specs.Stored.{flat, Sorted, Range, Part, Kept};
+ghost use Rattle.tree.specs.Stored.{flat, Sorted, Range, Part, Lent};
 ghost use Rattle.path_fields.specs.Written.{Wrote};
 ghost use Rattle.subtrees.specs.Listed.{tree_bytes};
 
 use crate::count::{has_new, is_new, list_length};
-use leaf_row::Leaf;
+use leaf_row::{Leaf, are_leaves};
 use path_fields::write_node;
 use ranges::put;
 use tree::{Children, Fork, StoredTree, fork_of};
@@ -75,9 +75,10 @@ fn write_side(leaves: &[Leaf], slots: &[Children], epoch: u32, out: &mut [u8], a
 
 // Writes the list of the whole stored tree at `at`, "a count (4) and records", and answers the place behind it.
 pub fn write_list(tree: &StoredTree<'_>, epoch: u32, out: &mut [u8], at: usize) -> usize
-    requires { (length tree.now.leaves.now ≤ audit_most) × Kept tree.now × (at + length (list_field.bytes (below_root epoch (root (as_nodes tree.now.leaves.now)))) ≤ length out.old) }
+    requires { (length tree.now.leaves.now ≤ audit_most) × Lent tree.now × (at + length (list_field.bytes (below_root epoch (root (as_nodes tree.now.leaves.now)))) ≤ length out.old) }
     ensures { Wrote out.old at (list_field.bytes (below_root epoch (root (as_nodes tree.now.leaves.now)))) out.new result }
 {
+    are_leaves(tree.leaves);
     write32(out, at, list_length(tree.leaves, epoch) as u32);
     let split = tree.sides.split;
     let (low, high) = tree.leaves.split_at(split);

@@ -17,7 +17,7 @@ use Rattle.ranges.proofs.Slices.{bytewise}
 use Rattle.leaf_row.specs.Row.{as_nodes}
 use Rattle.level.specs.Rooted.{path_over}
 use Rattle.level.proofs.Tests.{out-of-bounds, in_bounds}
-use Rattle.level.proofs.Row.{fits, same-leaves, row-sized}
+use Rattle.level.proofs.Row.{fits, same-leaves}
 use Rattle.level.proofs.entry.tree_path.Goals as goal
 use Rattle.level.proofs.entry.tree_path.Goals.{Else-not-entries_within, After-as_chunks, After-row-row, After-copy_from_slice}
 
@@ -62,9 +62,8 @@ returns-in_default c =
 
 pub path_over-requires : goal.path_over-requires
 path_over-requires c =
-    let d = (goal.at.path_over-requires c).After-copy_from_slice in
     let w = within (goal.at.path_over-requires c).Else-not-entries_within in
-    (row-sized c.args.entries.now (bytes d) w _ (row-is d), omega (arith, ap length c.copy_from_slice.ensures.after, c.as_chunks.ensures.front_len, (fits _ w).few))
+    omega (arith, ap length c.copy_from_slice.ensures.after, c.as_chunks.ensures.front_len, (fits _ w).few)
 
 pub returns : goal.returns
 unfolding tree_path path_over

@@ -16,7 +16,7 @@ use Rattle.paper.proofs.Fits.{digest-wide}
 use Rattle.ranges.proofs.Slices.{bytewise}
 use Rattle.leaf_row.specs.Row.{as_nodes}
 use Rattle.level.proofs.Tests.{out-of-bounds, clash, no_room, written}
-use Rattle.level.proofs.Row.{fits, same-leaves, row-sized}
+use Rattle.level.proofs.Row.{fits, same-leaves}
 use Rattle.level.proofs.entry.tree_root.Goals as goal
 use Rattle.level.proofs.entry.tree_root.Goals.{Else-not-entries_within, After-as_chunks, After-row-row, After-copy_from_slice, In-Some}
 
@@ -53,9 +53,8 @@ returns-then-not-entries_within c =
 
 pub root_of-requires : goal.root_of-requires
 root_of-requires c =
-    let d = (goal.at.root_of-requires c).After-copy_from_slice in
     let w = within (goal.at.root_of-requires c).Else-not-entries_within in
-    (row-sized c.args.entries.now (bytes d) w _ (row-is d), omega (arith, ap length c.copy_from_slice.ensures.after, c.as_chunks.ensures.front_len, (fits _ w).few))
+    omega (arith, ap length c.copy_from_slice.ensures.after, c.as_chunks.ensures.front_len, (fits _ w).few)
 
 distinctly : (c : In-Some) → distinct (leaves_of c.args.entries.now) ≡ true
 distinctly c = ap distinct (sym (leaves-are (goal.at.In-Some c).After-copy_from_slice)) ∙ c.in-Some.ensures.0

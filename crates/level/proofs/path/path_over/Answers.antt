@@ -11,9 +11,9 @@ use Rattle.paper.specs.Tree.{root}
 use Rattle.paper.specs.Path.{way}
 use Rattle.paper.specs.Fields.{path_field}
 use Rattle.paper.specs.Table.{holds, distinct}
+use Rattle.paper.specs.Level.{rising}
 use Rattle.leaf_row.specs.Row.{as_nodes}
-use Rattle.leaf_row.proofs.Rows.{sized-among}
-use Rattle.tree.specs.Stored.{Sorted}
+use Rattle.tree.proofs.Slots.{kept-lent}
 use Rattle.level.proofs.Over.{over-clash, over-there, over-full, over-written}
 use Rattle.level.proofs.path.path_over.Goals as goal
 use Rattle.level.proofs.path.path_over.Goals.{else-absent-via-then-absent+else-is_there, else-absent-via-else-absent, After-path_length-length, After-slots-slots, Else-not-arrange}
@@ -26,8 +26,8 @@ returns-then-not-arrange c =
 apart : (c : Else-not-arrange) → distinct (as_nodes c.args.leaves.now) ≡ true
 apart c = sym c.arrange.ensures.clear ∙ c.if-not-arrange.false
 
-ordered : (c : Else-not-arrange) → Sorted (as_nodes c.arrange.new.leaves)
-ordered c = record { sized = sized-among _ _ c.arrange.ensures.among c.requires.0; rises = c.arrange.ensures.order c.if-not-arrange.false }
+ordered : (c : Else-not-arrange) → rising (as_nodes c.arrange.new.leaves) ≡ true
+ordered c = c.arrange.ensures.order c.if-not-arrange.false
 
 pub is_there-requires : goal.is_there-requires
 is_there-requires c = ordered (goal.at.is_there-requires c).Else-not-arrange
@@ -66,7 +66,7 @@ returns-then-out-length c =
     sym (over-full (as_nodes a.leaves.now) (bits_of a.label.now) a.absent a.out.now (apart (goal.at.returns-then-out-length c).Else-not-arrange) (free p) (omega (arith, size_is p, c.if-out-length.true)))
 
 few : (c : After-slots-slots) → length (take (length c.arrange.new.leaves) c.slots-slots.result) ≡ length c.arrange.new.leaves
-few c = length-take-le (length c.arrange.new.leaves) c.slots-slots.result (omega (arith, c.slots-slots.ensures, c.requires.1, c.arrange.auto.leaves))
+few c = length-take-le (length c.arrange.new.leaves) c.slots-slots.result (omega (arith, c.slots-slots.ensures, c.requires, c.arrange.auto.leaves))
 
 pub slice_bounds-store-end : goal.slice_bounds-store-end
 slice_bounds-store-end c = sym (few (goal.at.slice_bounds-store-end c).After-slots-slots)
@@ -75,7 +75,7 @@ pub store-tree-requires : goal.store-tree-requires
 store-tree-requires c = (ordered (goal.at.store-tree-requires c).Else-not-arrange, few (goal.at.store-tree-requires c).After-slots-slots)
 
 pub write_path-requires : goal.write_path-requires
-write_path-requires c = (c.store-tree.ensures.tree, rw c.store-tree.ensures.leaves (omega (arith, c.path_length-length.ensures, c.if-out-length.false)))
+write_path-requires c = (kept-lent _ c.store-tree.ensures.tree, rw c.store-tree.ensures.leaves (omega (arith, c.path_length-length.ensures, c.if-out-length.false)))
 
 pub returns : goal.returns
 returns c =

@@ -32,7 +32,7 @@ pub returns-then-leaves-eq1 : goal.returns-then-leaves-eq1
 returns-then-leaves-eq1 t c = let S = as_nodes c.args.leaves.now in sym (one-length c.args.epoch S c.requires.sorted.sized (nodes-length c.args.leaves.now ∙ c.if-leaves-eq1.true))
 
 pub fork_of-length-requires : goal.fork_of-length-requires
-fork_of-length-requires t c = (omega (arith, c.requires.some, nodes-length c.args.leaves.now), c.requires.sorted)
+fork_of-length-requires t c = (omega (arith, c.requires.some, nodes-length c.args.leaves.now), c.requires.sorted.rises)
 
 pub returns-then-not-has_new : goal.returns-then-not-has_new
 returns-then-not-has_new t c =

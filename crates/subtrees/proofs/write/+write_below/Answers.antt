@@ -45,7 +45,7 @@ returns-then-leaves-eq1 t c =
     subst (λ x. Wrote c.args.out.now c.args.at x c.write_leaf.new.out c.write_leaf.result) (sym (alone t (goal.at.returns-then-leaves-eq1 t c).Then-leaves-eq1)) c.write_leaf.ensures
 
 pub fork_of-length-requires : goal.fork_of-length-requires
-fork_of-length-requires t c = (omega (arith, c.requires.0.some, nodes-length c.args.leaves.now), c.requires.0.sorted)
+fork_of-length-requires t c = (omega (arith, c.requires.0.some, nodes-length c.args.leaves.now), c.requires.0.sorted.rises)
 
 -- how many bits the leaves share, and how many of them go left
 abbrev bits : (t : ℕ) → After-fork_of-length t → ℕ

@@ -12,6 +12,7 @@ use Rattle.paper.specs.Write.{below_root}
 use Rattle.paper.proofs.Bytes.{be-length}
 use Rattle.leaf_row.specs.Row.{as_nodes}
 use Rattle.leaf_row.proofs.Rows.{nodes-length, nodes-take, nodes-drop}
+use Rattle.tree.specs.Stored.{Sorted}
 use Rattle.tree.proofs.Halves.{RootHalves, before-sorted, behind-sorted}
 use Rattle.tree_path.proofs.Root.{parts, reach}
 use Rattle.path_fields.specs.Written.{Wrote}
@@ -24,8 +25,11 @@ use Rattle.subtrees.proofs.write.write_list.Goals.{After-list_length, After-spli
 abbrev leaves : After-list_length → List Node
 leaves c = as_nodes c.args.tree.now.leaves.now
 
+sorted : (c : After-list_length) → Sorted (leaves c)
+sorted c = record { sized = c.are_leaves.ensures; rises = c.requires.1.rises }
+
 cut : (c : After-list_length) → RootHalves (leaves c) c.args.tree.now.sides.split
-cut c = let t = c.args.tree.now in parts (leaves c) t.slots.now t.sides c.requires.1.sorted c.requires.1.stored
+cut c = let t = c.args.tree.now in parts (leaves c) t.slots.now t.sides (sorted c) c.requires.1.stored
 
 -- the two sides
 abbrev low : After-list_length → Tree
@@ -56,7 +60,7 @@ room c =
 pub overflow_cast-list_length : goal.overflow_cast-list_length
 overflow_cast-list_length c =
     let d = (goal.at.overflow_cast-list_length c).After-list_length in
-    omega (arith, c.list_length.ensures, root-few c.args.epoch (leaves d) c.args.tree.now.sides.split c.requires.1.sorted (cut d), nodes-length c.args.tree.now.leaves.now, c.requires.0)
+    omega (arith, c.list_length.ensures, root-few c.args.epoch (leaves d) c.args.tree.now.sides.split (sorted d) (cut d), nodes-length c.args.tree.now.leaves.now, c.requires.0)
 
 pub write32-requires : goal.write32-requires
 write32-requires c = omega (arith, room (goal.at.write32-requires c).After-list_length)
@@ -65,7 +69,7 @@ pub split_at-requires : goal.split_at-requires
 split_at-requires c = omega (arith, (cut (goal.at.split_at-requires c).After-list_length).most, nodes-length c.args.tree.now.leaves.now)
 
 pub split_at-requires-2 : goal.split_at-requires-2
-split_at-requires-2 c = let t = c.args.tree.now in reach (as_nodes t.leaves.now) t.slots.now t.sides c.requires.1.sorted c.requires.1.stored
+split_at-requires-2 c = let t = c.args.tree.now in reach (as_nodes t.leaves.now) t.slots.now t.sides (sorted (goal.at.split_at-requires-2 c).After-list_length) c.requires.1.stored
 
 low-is : (c : After-split_at) → let t = c.args.tree.now in as_nodes c.split_at.result.0.now ≡ take t.sides.split (as_nodes t.leaves.now)
 low-is c = let t = c.args.tree.now in ap as_nodes c.split_at.ensures.front ∙ nodes-take t.sides.split t.leaves.now
@@ -80,7 +84,7 @@ write_side-next-requires c =
     let t = c.args.tree.now in
     let m = t.sides.split in
     let n : length c.split_at.result.0.now ≡ length (take m (as_nodes t.leaves.now)) = sym (nodes-length c.split_at.result.0.now) ∙ ap length (low-is s) in (
-      rw (low-is s) (before-sorted (leaves d) c.requires.1.sorted m),
+      rw (low-is s) (before-sorted (leaves d) (sorted d) m),
       rw (low-is s) (cut d).left,
       rw (c.split_at-2.ensures.front, n, low-is s) c.requires.1.stored.left.inside,
       rw (c.split_at-2.ensures.front, n) c.requires.1.stored.left.size,
@@ -95,7 +99,7 @@ write_side-requires c =
     let m = t.sides.split in
     let b = c.write_side-next.ensures.behind ∙ ap (λ S. c.args.at + 4 + length (tree_bytes c.args.epoch (build 256 S))) (low-is s) in
     let n : length c.split_at.result.1.now ≡ length (drop m (as_nodes t.leaves.now)) = sym (nodes-length c.split_at.result.1.now) ∙ ap length (high-is s) in (
-      rw (high-is s) (behind-sorted (leaves d) c.requires.1.sorted m),
+      rw (high-is s) (behind-sorted (leaves d) (sorted d) m),
       rw (high-is s) (cut d).right,
       rw (c.split_at-2.ensures.back, n, high-is s) c.requires.1.stored.right.inside,
       rw (c.split_at-2.ensures.back, n) c.requires.1.stored.right.size,
