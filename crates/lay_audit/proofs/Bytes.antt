@@ -22,7 +22,7 @@ use Rattle.paper.proofs.Fits.{digest-wide}
 use Rattle.paper.proofs.Honest.{LeafSet}
 use Rattle.paper.proofs.Audited.{list-order, list-fit}
 use Rattle.ranges.proofs.Slices.{length_part}
-use Rattle.leaf_row.specs.Row.{as_nodes}
+use Rattle.leaf_row.specs.Row.{as_nodes, Sized}
 use Rattle.leaf_row.proofs.Rows.{nodes-length}
 use Rattle.tree.specs.Stored.{Sorted}
 use Rattle.tree.specs.declared.StoredTree.{StoredTree}
@@ -187,10 +187,11 @@ pub rows-size : (heads : Bytes) (t : ℕ) (A O : List Node) → Step heads t →
 rows-size heads t A O step wa wo = with_size heads t A O step ∙ omega (arith, new-size heads t A O step, list-size t A wa.sized, list-size t O wo.sized)
 
 -- "audit records per tree | 0 to 16,384": there are no more records than leaves
-pub list-few : (t : ℕ) (T : StoredTree) → Listable T → length (below_root t (root (as_nodes T.leaves.now))) ≤ 16384
-list-few t T k =
+pub list-few : (t : ℕ) (T : StoredTree) → Sized (as_nodes T.leaves.now) → Listable T → length (below_root t (root (as_nodes T.leaves.now))) ≤ 16384
+list-few t T s k =
     let S = as_nodes T.leaves.now in
-    omega (arith, root-few t S T.sides.split k.tree.sorted (Root.parts S T.slots.now T.sides k.tree.sorted k.tree.stored), nodes-length T.leaves.now, k.few)
+    let w : Sorted S = record { sized = s; rises = k.tree.rises } in
+    omega (arith, root-few t S T.sides.split w (Root.parts S T.slots.now T.sides w k.tree.stored), nodes-length T.leaves.now, k.few)
 
 -- a head as its roots were found
 pub head-found : (heads : Bytes) (t : ℕ) (o : Bytes) (at : ℕ) {a b x y : Bytes} → a ≡ x → b ≡ y → pasted o at (head_field.bytes (head_with heads t a b)) ≡ pasted o at (head_field.bytes (head_with heads t x y))

@@ -10,6 +10,7 @@ ghost use Rattle.audit_form.specs.Places.{count_at, records_at, Listed};
 ghost use Rattle.lay_audit.specs.Audited.{head_with, new_with, bytes_with, NewLaid, Step, Listable};
 
 use front::previous_head;
+use leaf_row::are_leaves;
 use ranges::put;
 use subtrees::write_list;
 use tree::StoredTree;
@@ -65,6 +66,8 @@ pub(crate) fn lay(
     requires { Step heads.now epoch × Listable all.now × Listable old.now × (length (bytes_with heads.now epoch (as_nodes all.now.leaves.now) (as_nodes old.now.leaves.now)) ≤ length out.old) }
     ensures { out.new ≡ pasted out.old 0 (bytes_with heads.now epoch (as_nodes all.now.leaves.now) (as_nodes old.now.leaves.now)) }
 {
+    are_leaves(all.leaves);
+    are_leaves(old.leaves);
     let next = lay_new(heads, epoch, all, old, out);
     let all_before = root_before(out, 206);
     let old_before = root_before(out, next);

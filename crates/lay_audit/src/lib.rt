@@ -10,6 +10,7 @@ ghost use Rattle.tested.specs.Tested.{weighed};
 ghost use Rattle.lay_audit.specs.Audited.{bytes_with, Step, Listable};
 
 use lay::lay;
+use leaf_row::are_leaves;
 use paper::{Refusal, Returned, State, WriteAnswer, Written};
 use room::has_room;
 use subtrees::list_length;
@@ -27,6 +28,8 @@ pub fn lay_audit(
     requires { Step heads.now epoch × Listable all.now × Listable old.now }
     ensures { record { answer = result; out = out.new } ≡ weighed state out.old true (bytes_with heads.now epoch (as_nodes all.now.leaves.now) (as_nodes old.now.leaves.now)) }
 {
+    are_leaves(all.leaves);
+    are_leaves(old.leaves);
     let first = list_length(all.leaves, epoch) * 99;
     let second = list_length(old.leaves, epoch) * 99;
     if !has_room(out.len(), 214, first, second) {

@@ -17,6 +17,7 @@ use Rattle.paper.specs.Path.{way}
 use Rattle.paper.specs.Layout.{times_bytes}
 use Rattle.paper.specs.Fields.{path_field}
 use Rattle.paper.specs.Table.{holds}
+use Rattle.paper.specs.Level.{rising}
 use Rattle.paper.specs.Shows as P
 use Rattle.paper.proofs.Pasted.{pasted-none}
 use Rattle.table.proofs.Own.{every-snoc}
@@ -25,7 +26,7 @@ use Rattle.plan.specs.declared.Place.{Place}
 use Rattle.plan.specs.declared.Place.TheVariants.{InAll, InOld, AsMarker}
 use Rattle.plan.specs.declared.Asked.{Asked}
 use Rattle.leaf_row.specs.Row.{as_nodes}
-use Rattle.tree.specs.Stored.{Sorted, Kept}
+use Rattle.tree.specs.Stored.{Lent}
 use Rattle.forest.specs.declared.Trees.{Trees}
 use Rattle.plan.proofs.Places.{place-back}
 use Rattle.path_fields.specs.Written.{Wrote}
@@ -43,12 +44,12 @@ every-fails f (x ∷ l) zero d h e = rw e
 every-fails f (x ∷ l) (suc i) d h e = rw (every-fails f l i d (omega arith) e) (and-false (f x))
 
 -- the tree of a place is in order, or stored, over the leaves of the place
-pub tree-sorted : (t : Trees) (name : Bytes) (x : Place) → Ordered t name → Sorted (as_nodes (tree_for t x).leaves.now)
+pub tree-sorted : (t : Trees) (name : Bytes) (x : Place) → Ordered t name → rising (as_nodes (tree_for t x).leaves.now) ≡ true
 tree-sorted t name (InAll i) w = w.all
 tree-sorted t name (InOld i) w = w.old
 tree-sorted t name (AsMarker j) w = w.all
 
-pub tree-kept : (t : Trees) (name : Bytes) (x : Place) → Ready t name → Kept (tree_for t x)
+pub tree-kept : (t : Trees) (name : Bytes) (x : Place) → Ready t name → Lent (tree_for t x)
 tree-kept t name (InAll i) w = w.all
 tree-kept t name (InOld i) w = w.old
 tree-kept t name (AsMarker j) w = w.all

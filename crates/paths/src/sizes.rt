@@ -1,27 +1,29 @@
 // How many bytes the paths have, where each label that is to be shown absent is absent.
-ghost use Rattle.std.specs.Prelude.{◌≡◌, not, ◌||◌, ◌≤◌, length};
+ghost use Rattle.std.specs.Prelude.{◌≡◌, true, not, ◌||◌, ◌≤◌, length};
 ghost use Rattle.paper.specs.Lists.{every};
 ghost use Rattle.paper.specs.Bits.{bits_of};
 ghost use Rattle.paper.specs.Tree.{root};
 ghost use Rattle.paper.specs.Path as P;
 ghost use Rattle.paper.specs.Fields.{path_field};
 ghost use Rattle.paper.specs.Table.{holds};
+ghost use Rattle.paper.specs.Level.{rising};
 ghost use Rattle.leaf_row.specs.Row.{as_nodes};
-ghost use Rattle.tree.specs.Stored.{Sorted};
 ghost use Rattle.plan.specs.Asked.{asked_of};
 ghost use Rattle.paths.specs.Paths.{wanted, path_for, free_for, path_bytes, all_of, old_of, Ordered, Measured, Sized};
 
 use crate::tree_of;
 use forest::Trees;
+use leaf_row::are_leaves;
 use plan::{Asked, Plan};
 use tree::StoredTree;
 use tree_path::{is_there, path_length};
 
 // A label's path in a tree. "or a label to be shown absent is there"
 fn measure_in(tree: &StoredTree<'_>, label: &[u8; 32], there: bool) -> Option<usize>
-    requires { Sorted (as_nodes tree.now.leaves.now) }
+    requires { rising (as_nodes tree.now.leaves.now) ≡ true }
     ensures { Sized (there || not (holds (bits_of label.now) (as_nodes tree.now.leaves.now))) (path_field.bytes (P.way (bits_of label.now) (root (as_nodes tree.now.leaves.now)))) result }
 {
+    are_leaves(tree.leaves);
     if !there && is_there(tree.leaves, label) {
         return None;
     }

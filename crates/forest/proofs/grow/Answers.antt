@@ -1,19 +1,20 @@
 -- `forest::grow`: the leaves gathered are those of the records, in order they give the same tree.
 use native.Mathlib.Omega.{arith}
 use mathlib.Core.Path.{◌≡◌, sym, ap, ◌∙◌, subst}
+use mathlib.Core.Bool.{true}
 use mathlib.Core.List.{List, ◌++◌}
 use Prim.Native.Nat.{◌*◌, ◌≤◌}
 use lib.ListN.{length, take}
 use lib.Seq.{length-take-le}
 use Rattle.paper.specs.Strings.{Node}
+use Rattle.paper.specs.Level.{rising}
 use Rattle.record.specs.Places.{records_in}
 use Rattle.gather.specs.Gathered.{leaves_by}
 use Rattle.gather.proofs.Leaves.{by-few}
 use Rattle.bit_order.proofs.Leaves.{leaves_none, leaves-cut}
 use Rattle.arrange.specs.Arranged.{Arranged}
 use Rattle.leaf_row.specs.Row.{as_nodes}
-use Rattle.leaf_row.proofs.Rows.{sized-among, row-count, of-count}
-use Rattle.tree.specs.Stored.{Sorted}
+use Rattle.leaf_row.proofs.Rows.{row-count, of-count}
 use Rattle.forest.proofs.grow.Goals as goal
 use Rattle.forest.proofs.grow.Goals.{After-gather-n, After-leaves_of-leaves, After-arrange, Else-not-arrange}
 
@@ -49,8 +50,8 @@ found c = subst (λ S. Arranged S (as_nodes c.arrange.new.leaves) c.arrange.resu
 pub returns-then-not-arrange : goal.returns-then-not-arrange
 returns-then-not-arrange c = sym (found (goal.at.returns-then-not-arrange c).After-arrange).clear ∙ c.if-not-arrange.true
 
-ordered : (c : Else-not-arrange) → Sorted (as_nodes c.arrange.new.leaves)
-ordered c = record { sized = sized-among _ _ c.arrange.ensures.among c.leaves_of-leaves.ensures.sized; rises = c.arrange.ensures.order c.if-not-arrange.false }
+ordered : (c : Else-not-arrange) → rising (as_nodes c.arrange.new.leaves) ≡ true
+ordered c = c.arrange.ensures.order c.if-not-arrange.false
 
 count : (c : After-arrange) → length c.arrange.new.leaves ≡ c.gather-n.result
 count c =

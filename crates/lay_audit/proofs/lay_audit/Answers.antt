@@ -18,18 +18,18 @@ use Rattle.lay_audit.proofs.lay_audit.Goals.{After-list_length-first, After-list
 few : (c : After-list_length-first) → c.list_length-first.result ≤ 16384
 few c =
     let a = c.args in
-    omega (arith, c.list_length-first.ensures, list-few a.epoch a.all.now c.requires.1)
+    omega (arith, c.list_length-first.ensures, list-few a.epoch a.all.now c.are_leaves.ensures c.requires.1)
 
 few-2 : (c : After-list_length-second) → c.list_length-second.result ≤ 16384
 few-2 c =
     let a = c.args in
-    omega (arith, c.list_length-second.ensures, list-few a.epoch a.old.now c.requires.2)
+    omega (arith, c.list_length-second.ensures, list-few a.epoch a.old.now c.are_leaves-2.ensures c.requires.2)
 
 pub list_length-first-requires : goal.list_length-first-requires
-list_length-first-requires c = c.requires.1.tree.sorted
+list_length-first-requires c = c.requires.1.tree.rises
 
 pub list_length-second-requires : goal.list_length-second-requires
-list_length-second-requires c = c.requires.2.tree.sorted
+list_length-second-requires c = c.requires.2.tree.rises
 
 pub overflow_mul-first : goal.overflow_mul-first
 overflow_mul-first c = omega (arith, few c)
@@ -44,7 +44,7 @@ proof c = let a = c.args in bytes_with a.heads.now a.epoch (as_nodes a.all.now.l
 size : (c : After-list_length-second) → length (proof c) ≡ 214 + c.list_length-first.result * 99 + c.list_length-second.result * 99
 size c =
     let a = c.args in
-    omega (arith, rows-size a.heads.now a.epoch (as_nodes a.all.now.leaves.now) (as_nodes a.old.now.leaves.now) c.requires.0 c.requires.1.tree.sorted c.requires.2.tree.sorted, c.list_length-first.ensures, c.list_length-second.ensures)
+    omega (arith, rows-size a.heads.now a.epoch (as_nodes a.all.now.leaves.now) (as_nodes a.old.now.leaves.now) c.requires.0 (record { sized = c.are_leaves.ensures; rises = c.requires.1.tree.rises }) (record { sized = c.are_leaves-2.ensures; rises = c.requires.2.tree.rises }), c.list_length-first.ensures, c.list_length-second.ensures)
 
 pub returns-then-not-has_room : goal.returns-then-not-has_room
 returns-then-not-has_room c =

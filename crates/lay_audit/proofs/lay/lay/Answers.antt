@@ -33,24 +33,24 @@ lay_new-next-requires c = (c.requires.0, c.requires.1, c.requires.2, room (goal.
 -- the leaves of either tree are a set
 first-set : (c : After-lay_new-next) → LeafSet (first-leaves (goal.at.After-lay_new-next c).Start)
 first-set c =
-    leaf-set _ c.requires.1.tree.sorted
+    leaf-set _ (record { sized = c.are_leaves.ensures; rises = c.requires.1.tree.rises })
 
 second-set : (c : After-lay_new-next) → LeafSet (second-leaves (goal.at.After-lay_new-next c).Start)
 second-set c =
-    leaf-set _ c.requires.2.tree.sorted
+    leaf-set _ (record { sized = c.are_leaves-2.ensures; rises = c.requires.2.tree.rises })
 
 -- both lists stand in what was laid
 first-list : (c : After-slice_known-2-1) → ListStands c.lay_new-next.new.out 206 (below_root c.args.epoch (root (first-leaves (goal.at.After-slice_known-2-1 c).Start)))
 first-list c =
     let a = c.args in
     all-stands a.heads.now a.epoch (first-leaves (goal.at.After-slice_known-2-1 c).Start) (second-leaves (goal.at.After-slice_known-2-1 c).Start) c.requires.0 a.out.now c.lay_new-next.new.out c.lay_new-next.result (room (goal.at.After-slice_known-2-1 c).Start) c.lay_new-next.ensures (bytewise c.lay_new-next.new.out c.slice_known-2-1.given) (first-set (goal.at.After-slice_known-2-1 c).After-lay_new-next)
-    (list-few a.epoch a.all.now c.requires.1)
+    (list-few a.epoch a.all.now c.are_leaves.ensures c.requires.1)
 
 second-list : (c : After-slice_known-2-1) → ListStands c.lay_new-next.new.out c.lay_new-next.result (below_root c.args.epoch (root (second-leaves (goal.at.After-slice_known-2-1 c).Start)))
 second-list c =
     let a = c.args in
     old-stands a.heads.now a.epoch (first-leaves (goal.at.After-slice_known-2-1 c).Start) (second-leaves (goal.at.After-slice_known-2-1 c).Start) c.requires.0 a.out.now c.lay_new-next.new.out c.lay_new-next.result (room (goal.at.After-slice_known-2-1 c).Start) c.lay_new-next.ensures (bytewise c.lay_new-next.new.out c.slice_known-2-1.given) (second-set (goal.at.After-slice_known-2-1 c).After-lay_new-next)
-    (list-few a.epoch a.old.now c.requires.2)
+    (list-few a.epoch a.old.now c.are_leaves-2.ensures c.requires.2)
 
 pub root_before-all_before-requires : goal.root_before-all_before-requires
 root_before-all_before-requires c =

@@ -11,10 +11,10 @@ use Rattle.paper.specs.Table.{holds}
 use Rattle.leaf_row.specs.Row.{as_nodes}
 use Rattle.tree_path.proofs.There.{path-most}
 use Rattle.paths.proofs.sizes.measure_in.Goals as goal
-use Rattle.paths.proofs.sizes.measure_in.Goals.{Start, After-path_length, else-not-there-via-then-not-there+else-is_there, else-not-there-via-else-not-there}
+use Rattle.paths.proofs.sizes.measure_in.Goals.{After-are_leaves, After-path_length, else-not-there-via-then-not-there+else-is_there, else-not-there-via-else-not-there}
 
-few : (c : Start) → length (path_field.bytes (way (bits_of c.args.label.now) (root (as_nodes c.args.tree.now.leaves.now)))) ≤ 8805
-few c = path-most (as_nodes c.args.tree.now.leaves.now) c.args.label.now c.requires c.told-label
+few : (c : After-are_leaves) → length (path_field.bytes (way (bits_of c.args.label.now) (root (as_nodes c.args.tree.now.leaves.now)))) ≤ 8805
+few c = path-most (as_nodes c.args.tree.now.leaves.now) c.args.label.now (record { sized = c.are_leaves.ensures; rises = c.requires }) c.told-label
 
 pub is_there-requires : goal.is_there-requires
 is_there-requires c = c.requires
@@ -24,7 +24,7 @@ path_length-requires c = c.requires
 
 pub returns-then-is_there : goal.returns-then-is_there
 returns-then-is_there c =
-    record { measured = ap₂ (λ b h. b || not h) c.if-not-there.true (sym c.is_there.ensures ∙ c.if-is_there.true); most = few (goal.at.returns-then-is_there c).Start }
+    record { measured = ap₂ (λ b h. b || not h) c.if-not-there.true (sym c.is_there.ensures ∙ c.if-is_there.true); most = few (goal.at.returns-then-is_there c).After-are_leaves }
 
 or-true : (b : Bool) → (b || true) ≡ true
 or-true true = refl
@@ -37,4 +37,4 @@ free c = elim c.else-not-there.branch [
 ]
 
 pub returns : goal.returns
-returns c = record { measured = (free (goal.at.returns c).After-path_length, c.path_length.ensures); most = few (goal.at.returns c).Start }
+returns c = record { measured = (free (goal.at.returns c).After-path_length, c.path_length.ensures); most = few (goal.at.returns c).After-are_leaves }
