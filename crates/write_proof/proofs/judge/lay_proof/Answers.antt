@@ -48,7 +48,7 @@ weighs c =
     judged-is a.kind a.records.now a.heads.now a.state a.out.now a.name.now a.epoch (first-leaves c) (second-leaves c) c.find-from.result c.find-from.ensures
 
 pub measure_paths-requires : goal.measure_paths-requires
-measure_paths-requires c = (record { all = c.requires.1.all.sorted; old = c.requires.1.old.sorted; short = c.requires.1.short }, asked-few (plan c) (omega (arith, c.find-from.type_inv.1)))
+measure_paths-requires c = (record { all = c.requires.1.all.rises; old = c.requires.1.old.rises; short = c.requires.1.short }, asked-few (plan c) (omega (arith, c.find-from.type_inv.1)))
 
 pub returns-in_default : goal.returns-in_default
 returns-in_default c =
