@@ -55,7 +55,7 @@ slice_bounds-leaves_of-end c = sym (front (goal.at.slice_bounds-leaves_of-end c)
 pub root_of-requires : goal.root_of-requires
 root_of-requires c =
     let d = (goal.at.root_of-requires c).After-row-4-1 in
-    (c.leaves_of.ensures.sized, omega (arith, row-count c.leaves_of.result.now _ c.leaves_of.ensures.leaves, front d, few d))
+    omega (arith, row-count c.leaves_of.result.now _ c.leaves_of.ensures.leaves, front d, few d)
 
 pub returns : goal.returns
 returns c =
