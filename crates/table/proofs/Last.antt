@@ -11,7 +11,7 @@ use lib.ListN.{length, drop, get_or, drop_of_length-le}
 use lib.Seq.{drop-cons}
 use Rattle.paper.specs.Bytes.{Bytes}
 use Rattle.paper.proofs.Lists.{not-both}
-use Rattle.table.specs.Index.{buckets, mixed, bucket_of, last_where, up_to}
+use Rattle.table.specs.Index.{buckets, linked, mixed, bucket_of, last_where, up_to}
 
 -- ---- the last number that passes
 
@@ -20,6 +20,13 @@ some-none p q = cc
 
 pub some-one : {o : Option ℕ} {j k : ℕ} → o ≡ Some j → o ≡ Some k → j ≡ k
 some-one p q = cc
+
+-- entries that say the same are one
+pub linked-one : (a b : ℕ) → linked a ≡ linked b → a ≡ b
+linked-one zero zero e = refl
+linked-one zero (suc k) e = absurd (some-none refl (sym e))
+linked-one (suc j) zero e = absurd (some-none refl e)
+linked-one (suc j) (suc k) e = ap suc (some-one refl e)
 
 module _ (t : ℕ → Bool) where
   pub last_none : last_where t 0 ≡ None

@@ -10,6 +10,11 @@ use Rattle.table.specs.declared.index.Index.{Index}
 abbrev pub buckets : ℕ
 buckets = 4096
 
+-- the number that an entry says: 0 is none, and k + 1 is k
+abbrev pub linked : ℕ → Option ℕ
+linked zero = None
+linked (suc k) = Some k
+
 -- the bucket of a name, from its bytes
 unfoldable pub mixed : ℕ → Bytes → ℕ
 mixed h [] = h
@@ -41,8 +46,8 @@ pub record Indexed (s : Bytes) (n : ℕ) (x : Index) : Type 0 where
   pub width : length x.first ≡ buckets
   pub room : length x.next ≡ records_most
   pub few : n ≤ records_most
-  pub heads : (b : ℕ) → b < buckets → get_or x.first b None ≡ last_where (falls s b) n
-  pub links : (k : ℕ) → k < n → get_or x.next k None ≡ last_where (falls s (bucket_of (record_at s k).name)) k
+  pub heads : (b : ℕ) → b < buckets → linked (get_or x.first b 0) ≡ last_where (falls s b) n
+  pub links : (k : ℕ) → k < n → linked (get_or x.next k 0) ≡ last_where (falls s (bucket_of (record_at s k).name)) k
 
 -- an index over its own records
 abbrev pub Own : Index → Type 0
@@ -50,4 +55,4 @@ Own x = Indexed x.records.now x.count x
 
 -- and no record from number n on has a link
 abbrev pub Unlinked : ℕ → Index → Type 0
-Unlinked n x = (k : ℕ) → n ≤ k → get_or x.next k None ≡ None
+Unlinked n x = (k : ℕ) → n ≤ k → get_or x.next k 0 ≡ 0

@@ -1,19 +1,29 @@
 // The index over names.
 ghost use Rattle.std.specs.Prelude.{◌≡◌, suc, ◌<◌};
 ghost use Rattle.record.specs.Places.{Stands};
-ghost use Rattle.table.specs.Index.{bucket_of, last_where, named, Own, Unlinked};
+ghost use Rattle.table.specs.Index.{linked, bucket_of, last_where, named, Own, Unlinked};
 
 use ranges::same;
 use record::name_at;
 
 // The first records of a table: by a bucket the number of the last one in it, and by a record that of the last one before it in the
-// same bucket.
+// same bucket, each as `linked` reads it.
 #[derive(Drop)]
 pub struct Index<'a> {
     pub records: &'a [u8],
     pub count: usize,
-    first: [Option<u16>; 4096],
-    next: [Option<u16>; 4096],
+    pub first: [u16; 4096],
+    pub next: [u16; 4096],
+}
+
+// The record that an entry says: 0 is none, and k + 1 is record k. An `Option<u16>` would take 4 bytes an entry.
+fn linked(entry: u16) -> Option<usize>
+    ensures { result ≡ linked entry }
+{
+    match entry {
+        0 => None,
+        n => Some(n as usize - 1),
+    }
 }
 
 // The bucket of a name.
@@ -35,8 +45,8 @@ impl<'a> Index<'a> {
         Index {
             records,
             count: 0,
-            first: [None; 4096],
-            next: [None; 4096],
+            first: [0; 4096],
+            next: [0; 4096],
         }
     }
 
@@ -45,14 +55,13 @@ impl<'a> Index<'a> {
         requires { Own self.now }
         ensures { result ≡ last_where (named self.now.records.now name.now) self.now.count }
     {
-        let mut at = self.first[bucket(name)];
+        let mut at = linked(self.first[bucket(name)]);
         // a walk along links, by numbers: references from record to record would need the heap, which the project has not
         while let Some(k) = at {
-            let k = k as usize;
             if same(name_at(self.records, k), name) {
                 return Some(k);
             }
-            at = self.next[k];
+            at = linked(self.next[k]);
         }
         None
     }
@@ -65,7 +74,7 @@ impl<'a> Index<'a> {
         let i = self.count;
         let b = bucket(name_at(self.records, i));
         self.next[i] = self.first[b];
-        self.first[b] = Some(i as u16);
+        self.first[b] = (i + 1) as u16;
         self.count = i + 1;
     }
 }

@@ -3,7 +3,6 @@ use native.Mathlib.Omega.{arith}
 use mathlib.Core.Path.{◌≡◌, refl, ap, ◌∙◌, subst}
 use Prim.Native.Nat.{suc, ◌<◌, ◌+◌}
 use lib.ListN.{get_or, set}
-use Rattle.std.specs.Prelude.{None, Some}
 use Rattle.table.specs.declared.index.Index.{Index}
 use Rattle.record.specs.Places.{record_at}
 use Rattle.table.specs.Index.{bucket_of, Indexed, Unlinked, Own}
@@ -32,7 +31,7 @@ pub bounds-self-b-2 : goal.bounds-self-b-2
 bounds-self-b-2 c = in-width (goal.at.bounds-self-b-2 c).After-bucket-b
 
 made : After-bucket-b → Index
-made c = let a = c.args.self.now in record { records = a.records; count = a.count + 1; first = set a.first c.bucket-b.result (Some a.count); next = set a.next a.count (get_or a.first c.bucket-b.result None) }
+made c = let a = c.args.self.now in record { records = a.records; count = a.count + 1; first = set a.first c.bucket-b.result (a.count + 1); next = set a.next a.count (get_or a.first c.bucket-b.result 0) }
 
 entered : (c : After-bucket-b) → Own (made c) × Unlinked (made c).count (made c)
 unfolding made

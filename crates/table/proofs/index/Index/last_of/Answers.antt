@@ -21,7 +21,7 @@ pub bounds-self-bucket : goal.bounds-self-bucket
 bounds-self-bucket c = in-width (goal.at.bounds-self-bucket c).After-bucket
 
 pub loop-at-init : goal.loop-at-init
-loop-at-init c = walk_start c.args.self.now.records.now c.args.self.now.count c.args.self.now c.requires c.args.name.now c.bucket.result c.bucket.ensures
+loop-at-init c = rw c.linked-at.ensures (walk_start c.args.self.now.records.now c.args.self.now.count c.args.self.now c.requires c.args.name.now c.bucket.result c.bucket.ensures)
 
 -- the walk has come to record k
 come : (c : In-Some) → Walked c.args.self.now.records.now c.args.name.now c.args.self.now.count (Some c.in-Some.k)
@@ -40,13 +40,13 @@ returns-then-same c =
 pub loop-at-smaller : goal.loop-at-smaller
 loop-at-smaller c =
     let a = c.args in
-    rw c.in-Some.is (walk-less a.self.now.records.now a.self.now.count a.self.now c.requires a.name.now c.in-Some.k (come (goal.at.loop-at-smaller c).In-Some))
+    rw (c.in-Some.is, c.linked-at-in-Some.ensures) (walk-less a.self.now.records.now a.self.now.count a.self.now c.requires a.name.now c.in-Some.k (come (goal.at.loop-at-smaller c).In-Some))
 
 pub loop-at-preserved : goal.loop-at-preserved
 loop-at-preserved c =
     let a = c.args in
     let b = goal.at.loop-at-preserved c in
-    walk-on a.self.now.records.now a.self.now.count a.self.now c.requires a.name.now c.in-Some.k (come b.In-Some) (compared b.After-same ∙ c.if-same.false)
+    rw c.linked-at-in-Some.ensures (walk-on a.self.now.records.now a.self.now.count a.self.now c.requires a.name.now c.in-Some.k (come b.In-Some) (compared b.After-same ∙ c.if-same.false))
 
 pub returns : goal.returns
 returns c = walk_end c.args.self.now.records.now c.args.self.now.count c.args.self.now c.requires c.args.name.now (rw c.in_default.is at c.loop-at.invariant)
