@@ -7,7 +7,7 @@ use native.Mathlib.Omega.{arith}
 use mathlib.Core.List.{List, [], ◌∷◌}
 use Prim.Native.Nat.{ℕ}
 use lib.Dec.{eqb}
-use borrow.Author.Tests.{eqb-true, ne_eqb}
+use borrow.Author.Tests.{eqb-true, eq-eqb, ne_eqb}
 use Rattle.paper.specs.Lists.{All}
 use Rattle.paper.specs.Bytes.{Bytes, Bytewise}
 use Rattle.paper.specs.Labelling.{Labelling, Tied}
@@ -47,6 +47,20 @@ module _ (lab : Labelling) (tied : Tied lab) (d name lookup : Bytes) (steps : Li
   pub pointed : (answer : Bool) → Bytewise lookup → All (λ s. Bytewise s.proof) steps → Bytewise history → answer ≡ all_accepted lab d name lookup steps history
       → Pointed lab d name lookup steps history answer
   pointed answer lb sb hb e = record { is = e; says = λ t. accepted-agrees lb sb hb (sym e ∙ t) }
+
+  -- ---- the Boolean, check by check
+
+  pub unlooked : (n : ℕ) → n ≡ L → (n ≡ 0 → ⊥) → false ≡ all_accepted lab d name lookup steps history
+  unfolding all_accepted
+  unlooked n e h = sym (rw (ne_eqb L 0 (λ z. h (e ∙ z))))
+
+  pub unaudited : (n : ℕ) → n ≡ L → n ≡ 0 → steps_accepted d steps ≡ false → false ≡ all_accepted lab d name lookup steps history
+  unfolding all_accepted
+  unaudited n e z s = sym (rw (eq-eqb L 0 (sym e ∙ z), s))
+
+  pub reached : (n m : ℕ) → n ≡ L → n ≡ 0 → steps_accepted d steps ≡ true → m ≡ H → eqb m 0 ≡ all_accepted lab d name lookup steps history
+  unfolding all_accepted
+  reached n m e z s f = sym (rw (eq-eqb L 0 (sym e ∙ z), s, ← f))
 
 -- ---- a checker's number is 0 exactly where it accepts
 

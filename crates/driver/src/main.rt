@@ -20,16 +20,17 @@ fn answer<I: Read, O: Write>(
     input: &mut I,
     output: &mut O,
     number: u8,
-    request: &mut Request,
+    request: Request,
     space: &mut Space,
     spare: &mut Spare,
-) -> Result<(), Unreadable> {
-    match Call::try_from(number)? {
-        Call::Handset(call) => handset_calls::answer(input, output, call, request, space),
-        Call::Tree(call) => tree_calls::answer(input, output, call, request, space),
-        Call::Server(call) => server_calls::answer(input, output, call, request, space, spare),
-        Call::Proof(call) => writer_calls::answer(input, output, call, request, space, spare),
-        Call::Audit => writer_calls::answer_audit(input, output, request, space, spare),
+) {
+    match Call::try_from(number) {
+        Ok(Call::Handset(call)) => handset_calls::answer(input, output, call, request, space),
+        Ok(Call::Tree(call)) => tree_calls::answer(input, output, call, request, space),
+        Ok(Call::Server(call)) => server_calls::answer(input, output, call, request, space, spare),
+        Ok(Call::Proof(call)) => writer_calls::answer(input, output, call, request, space, spare),
+        Ok(Call::Audit) => writer_calls::answer_audit(input, output, request, space, spare),
+        Err(Unreadable) => print_bad(input, output, request),
     }
 }
 
@@ -42,11 +43,7 @@ fn turn<I: Read, O: Write>(
 ) -> bool {
     match next_request(input) {
         Ok(None) => return false,
-        Ok(Some((number, mut request))) => {
-            if answer(input, output, number, &mut request, space, spare).is_err() {
-                print_bad(input, output, request);
-            }
-        }
+        Ok(Some((number, request))) => answer(input, output, number, request, space, spare),
         Err(Unreadable) => print_bad(input, output, Request { left: 0 }),
     }
     true

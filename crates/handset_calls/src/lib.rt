@@ -1,9 +1,9 @@
 // The driver's calls of the handset: the checkers, the checking program's line, and what they rest on. docs/DRIVER.md has each call's
-// fields and answer. A call is one function that answers a request, and one arm of `answer`.
+// fields and answer. A call is one function that answers a request, and one arm of `try_answer`.
 #![tactic(auto)]
 
 use paper::{AcceptedAudit, AcceptedHistory, AcceptedLookup};
-use reply::{print_bytes, print_number, print_refused, print_text};
+use reply::{print_bad, print_bytes, print_number, print_refused, print_text};
 use std::io::{Read, Write};
 use wire::{HandsetCall, Request, Space, Unreadable};
 
@@ -77,6 +77,15 @@ fn read_fields<'a, I: Read>(
     })
 }
 
+// Three numbers with a blank between them.
+fn print_three<O: Write>(output: &mut O, a: u64, b: u64, c: u64) {
+    print_number(output, a);
+    print_text(output, b" ");
+    print_number(output, b);
+    print_text(output, b" ");
+    print_number(output, c);
+}
+
 // 4: version, epoch, digests, and where the accepted key starts and ends. A program can't ask where a slice lies; that the key lies there
 // is proved.
 fn answer_lookup<O: Write>(output: &mut O, fields: Fields) {
@@ -94,11 +103,16 @@ fn answer_lookup<O: Write>(output: &mut O, fields: Fields) {
                 digests,
             },
         ) => {
-            let end = 109 + key as u64;
-            let _ = writeln!(output, "{version} {epoch} {digests} 109 {end}");
+            print_three(output, version as u64, epoch as u64, digests as u64);
+            print_text(output, b" 109 ");
+            print_number(output, 109 + key as u64);
+            print_text(output, b"\n");
         }
         Ok(AcceptedLookup::NotRegistered { epoch, digests }) => {
-            let _ = writeln!(output, "0 {epoch} {digests} 0 {key}");
+            print_three(output, 0, epoch as u64, digests as u64);
+            print_text(output, b" 0 ");
+            print_number(output, key as u64);
+            print_text(output, b"\n");
         }
         Err(refusal) => print_refused(output, refusal.number()),
     }
@@ -114,7 +128,8 @@ fn answer_history<O: Write>(output: &mut O, fields: Fields) {
                 digests,
             },
         ) => {
-            let _ = writeln!(output, "{versions} {epoch} {digests}");
+            print_three(output, versions as u64, epoch as u64, digests as u64);
+            print_text(output, b"\n");
         }
         Err(refusal) => print_refused(output, refusal.number()),
     }
@@ -130,7 +145,8 @@ fn answer_audit<O: Write>(output: &mut O, fields: Fields) {
                 digests,
             },
         ) => {
-            let _ = writeln!(output, "{old_epoch} {new_epoch} {digests}");
+            print_three(output, old_epoch as u64, new_epoch as u64, digests as u64);
+            print_text(output, b"\n");
         }
         Err(refusal) => print_refused(output, refusal.number()),
     }
@@ -149,7 +165,7 @@ fn call_program<I: Read, O: Write>(
     Ok(())
 }
 
-pub fn answer<I: Read, O: Write>(
+fn try_answer<I: Read, O: Write>(
     input: &mut I,
     output: &mut O,
     call: HandsetCall,
@@ -166,4 +182,17 @@ pub fn answer<I: Read, O: Write>(
         HandsetCall::Program => return call_program(input, output, request, space),
     }
     Ok(())
+}
+
+// Answers a request, also one that can't be read.
+pub fn answer<I: Read, O: Write>(
+    input: &mut I,
+    output: &mut O,
+    call: HandsetCall,
+    mut request: Request,
+    space: &mut Space,
+) {
+    if try_answer(input, output, call, &mut request, space).is_err() {
+        print_bad(input, output, request);
+    }
 }

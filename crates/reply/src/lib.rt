@@ -18,9 +18,12 @@ pub fn print_number<O: Write>(output: &mut O, n: u64) {
     let _ = write!(output, "{n}");
 }
 
-// Writes the line of a refusal.
+// Writes the line of a refusal. Part by part, as every line: a part that the output does not take is dropped, and the next one is tried;
+// `writeln!` would drop what follows, the line's end too.
 pub fn print_refused<O: Write>(output: &mut O, n: u8) {
-    let _ = writeln!(output, "refused {n}");
+    print_text(output, b"refused ");
+    print_number(output, n as u64);
+    print_text(output, b"\n");
 }
 
 // Writes the line of a request that can't be read, and reads past what is left of it.

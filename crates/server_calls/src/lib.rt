@@ -1,15 +1,18 @@
 // The driver's calls of the server: starting a directory and publishing. docs/DRIVER.md has each call's fields and answer. A
-// call is one function, which reads its fields and answers a whole request, and one arm of `answer`.
+// call is one function, which reads its fields and answers a whole request, and one arm of `try_answer`.
 #![tactic(auto)]
 
 use paper::State;
-use reply::{print_bytes, print_refused, print_text};
+use reply::{print_bad, print_bytes, print_number, print_refused, print_text};
 use std::io::{Read, Write};
 use wire::{Request, ServerCall, Space, Spare, Unreadable};
 
 // The state and a blank after it.
 fn print_state<O: Write>(output: &mut O, state: State) {
-    let _ = write!(output, "{} {} ", state.count, state.epoch);
+    print_number(output, state.count as u64);
+    print_text(output, b" ");
+    print_number(output, state.epoch as u64);
+    print_text(output, b" ");
 }
 
 // 10: the state, and the heads as they are left.
@@ -88,7 +91,7 @@ fn call_publish<I: Read, O: Write>(
     Ok(())
 }
 
-pub fn answer<I: Read, O: Write>(
+fn try_answer<I: Read, O: Write>(
     input: &mut I,
     output: &mut O,
     call: ServerCall,
@@ -99,5 +102,19 @@ pub fn answer<I: Read, O: Write>(
     match call {
         ServerCall::Start => call_start(input, output, request, space),
         ServerCall::Publish => call_publish(input, output, request, space, spare),
+    }
+}
+
+// Answers a request, also one that can't be read.
+pub fn answer<I: Read, O: Write>(
+    input: &mut I,
+    output: &mut O,
+    call: ServerCall,
+    mut request: Request,
+    space: &mut Space,
+    spare: &mut Spare,
+) {
+    if try_answer(input, output, call, &mut request, space, spare).is_err() {
+        print_bad(input, output, request);
     }
 }

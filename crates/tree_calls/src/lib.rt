@@ -1,8 +1,8 @@
 // The driver's calls of the tree level. docs/DRIVER.md has each call's fields and answer. A call is one function, which reads its fields and
-// answers a whole request, and one arm of `answer`.
+// answers a whole request, and one arm of `try_answer`.
 #![tactic(auto)]
 
-use reply::{print_bytes, print_refused, print_text};
+use reply::{print_bad, print_bytes, print_refused, print_text};
 use std::io::{Read, Write};
 use wire::{Request, Space, TreeCall, Unreadable};
 
@@ -64,7 +64,7 @@ fn call_tree_path<I: Read, O: Write>(
     Ok(())
 }
 
-pub fn answer<I: Read, O: Write>(
+fn try_answer<I: Read, O: Write>(
     input: &mut I,
     output: &mut O,
     call: TreeCall,
@@ -74,5 +74,18 @@ pub fn answer<I: Read, O: Write>(
     match call {
         TreeCall::Root => call_tree_root(input, output, request, space),
         TreeCall::Path => call_tree_path(input, output, request, space),
+    }
+}
+
+// Answers a request, also one that can't be read.
+pub fn answer<I: Read, O: Write>(
+    input: &mut I,
+    output: &mut O,
+    call: TreeCall,
+    mut request: Request,
+    space: &mut Space,
+) {
+    if try_answer(input, output, call, &mut request, space).is_err() {
+        print_bad(input, output, request);
     }
 }

@@ -1,2 +1,3 @@
 -- Laws of numbers in bytes, for the crates above too.
 pub mod Number
+pub mod Halves

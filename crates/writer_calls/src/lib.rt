@@ -2,11 +2,11 @@
 // written to the spare room, of which the request says how much is lent.
 #![tactic(auto)]
 
-ghost use Rattle.std.specs.Prelude.{◌+◌, ◌≤◌, length};
+ghost use Rattle.std.specs.Prelude.{◌+◌, ◌≤◌, length, IfOk};
 ghost use Rattle.writer_calls.specs.Inside.{Inside};
 
 use paper::{State, WriteAnswer};
-use reply::{print_bytes, print_refused, print_text};
+use reply::{print_bad, print_bytes, print_refused, print_text};
 use std::io::{Read, Write};
 use wire::{ProofCall, Request, Space, Spare, Unreadable};
 
@@ -26,6 +26,7 @@ fn read_tables<'a, I: Read>(
     space: &'a mut [u8],
 ) -> Result<Tables<'a>, Unreadable>
     requires { 688_296 + 2_097_184 ≤ length space.old }
+    ensures { IfOk result (λ t. (length t.records.now ≤ 688_296) × (length t.heads.now ≤ 2_097_184)) }
 {
     let k = request.read_at(input, space, 0, 688_296)?;
     let m = request.read_at(input, space, 688_296, 2_097_184)?;
@@ -44,7 +45,9 @@ fn read_room<'a, I: Read>(
     input: &mut I,
     request: &mut Request,
     spare: &'a mut Spare,
-) -> Result<&'a mut [u8], Unreadable> {
+) -> Result<&'a mut [u8], Unreadable>
+    ensures { IfOk result (λ out. length out.now ≤ 1_200_000) }
+{
     let room = u32::from_be_bytes(request.read_array(input)?) as usize;
     let most = room.min(spare.len());
     Ok(&mut spare[..most])
@@ -84,9 +87,8 @@ fn print_written<O: Write>(output: &mut O, answer: WriteAnswer, out: &[u8])
     }
 }
 
-// Answers call 12 or 13.
-#[inline(never)]
-pub fn answer<I: Read, O: Write>(
+// Reads and answers call 12 or 13.
+fn try_answer<I: Read, O: Write>(
     input: &mut I,
     output: &mut O,
     call: ProofCall,
@@ -105,9 +107,23 @@ pub fn answer<I: Read, O: Write>(
     Ok(())
 }
 
-// Answers call 14. Neither is inlined: the compiler would join the frames of all three writers, with their arrays, in one.
+// Answers call 12 or 13, also one that can't be read.
 #[inline(never)]
-pub fn answer_audit<I: Read, O: Write>(
+pub fn answer<I: Read, O: Write>(
+    input: &mut I,
+    output: &mut O,
+    call: ProofCall,
+    mut request: Request,
+    space: &mut Space,
+    spare: &mut Spare,
+) {
+    if try_answer(input, output, call, &mut request, space, spare).is_err() {
+        print_bad(input, output, request);
+    }
+}
+
+// Reads and answers call 14.
+fn try_answer_audit<I: Read, O: Write>(
     input: &mut I,
     output: &mut O,
     request: &mut Request,
@@ -122,4 +138,19 @@ pub fn answer_audit<I: Read, O: Write>(
     let answer = written_step(tables, epoch, out);
     print_written(output, answer, out);
     Ok(())
+}
+
+// Answers call 14, also one that can't be read. Neither is inlined: the compiler would join the frames of all three writers, with their
+// arrays, in one.
+#[inline(never)]
+pub fn answer_audit<I: Read, O: Write>(
+    input: &mut I,
+    output: &mut O,
+    mut request: Request,
+    space: &mut Space,
+    spare: &mut Spare,
+) {
+    if try_answer_audit(input, output, &mut request, space, spare).is_err() {
+        print_bad(input, output, request);
+    }
 }
