@@ -26,7 +26,9 @@ pub struct Built {
     pub count: u32,
 }
 
-// The digest of the node in a record. An unchanged inner node is opened: its prefix is hashed with its digests.
+// The digest of the node in a record. An unchanged inner node is opened: its prefix is hashed with its digests. Neither this nor `fork` is
+// inlined: the strings that they hash would lie in each of the 256 frames of `below`.
+#[inline(never)]
 fn record_digest(row: &[u8; 99]) -> [u8; 32]
     requires { Formed row.now 0 }
     ensures { result ≡ T.digest (record_node (record_at row.now 0)) }
@@ -75,6 +77,7 @@ fn join(length: u16, prefix: &[u8; 32], left: Built, right: Built) -> Built
 }
 
 // The same, where a side with no node leaves the other as it is.
+#[inline(never)]
 #[tactic(auto, unfolding(crate::specs::Built::forked))]
 fn fork(length: u16, prefix: &[u8; 32], left: Option<Built>, right: Option<Built>) -> Option<Built>
     requires { hashed left + hashed right < 2 ^ 31 }
