@@ -22,8 +22,8 @@ use Rattle.paper.proofs.Bits.{pfx-trans, pfx-snoc, pfx-one-way, pfx-length, leng
 use Rattle.paper.proofs.Order.{Before}
 use Rattle.bit_order.proofs.Order.{before-once, Ordered, rising-ordered}
 use Rattle.bit_order.proofs.Cut.{pfx-goes-on}
-use Rattle.leaf_row.specs.Row.{as_nodes, Whole}
-use Rattle.leaf_row.proofs.Rows.{nodes-length, node_at, nodes-long}
+use Rattle.leaf_row.specs.Row.{as_nodes, Long}
+use Rattle.leaf_row.proofs.Rows.{nodes-length, node_at}
 use Rattle.tree.specs.Stored.{Range, Cut}
 
 -- what holds at each place holds of all
@@ -91,14 +91,14 @@ get_or-same (x ∷ l) (suc i) d e h = get_or-same l i d e (omega arith)
 abbrev pub goes_left : ℕ → Bytes → Bool
 goes_left k e = not (get_or (bits_of (take 32 e)) k false)
 
-module _ (row : List Bytes) (k : ℕ) (o : rising (as_nodes row) ≡ true) (w : Whole row) (r : Range k (as_nodes row)) where
+module _ (row : List Bytes) (k : ℕ) (o : rising (as_nodes row) ≡ true) (w : Long (as_nodes row)) (r : Range k (as_nodes row)) where
   left-at : (i : ℕ) (d : Bytes) → i < length row → goes_left k (get_or row i d) ≡ not (bit_at (as_nodes row) k i)
   left-at i d h = ap (goes_left k) (get_or-same row i d [] h) ∙ ap (λ x. not (get_or (key x) k false)) (sym (node_at row i h))
 
   pub left-first : IsPartitionedBy (goes_left k) row
   left-first i j d h l e =
       let f = not-true _ (sym (left-at j d l) ∙ e) in
-      left-at i d (omega arith) ∙ ap not (sinks (as_nodes row) k (rising-ordered _ o) r (nodes-long row w) i j h (omega (arith, nodes-length row)) f)
+      left-at i d (omega arith) ∙ ap not (sinks (as_nodes row) k (rising-ordered _ o) r w i j h (omega (arith, nodes-length row)) f)
 
   pub cut-row : (m : ℕ) → m ≤ length row → IsPartitionPoint (λ e. goes_left k e ≡ true) (λ e. goes_left k e ≡ false) row m → Cut k (as_nodes row) m
   cut-row m h p = cut_at (as_nodes row) k m (omega (arith, nodes-length row))
