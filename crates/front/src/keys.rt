@@ -1,6 +1,7 @@
 // The keys of a name's versions by an epoch, from a record on: "key length, key, opening" for each. A history has those of all its
 // records, a lookup that of the last.
 ghost use Rattle.std.specs.Prelude.{◌≡◌, ℕ, ◌+◌, ◌<◌, ◌≤◌, length};
+ghost use Rattle.paper.specs.Bytes.{pasted};
 ghost use Rattle.paper.specs.Shows.{item_field};
 ghost use Rattle.paper.specs.Write.{item_of};
 ghost use Rattle.record.specs.Places.{record_at, Stands};
@@ -19,6 +20,15 @@ fn item_size(records: &[u8], i: usize) -> usize
     33 + key_at(records, i).len()
 }
 
+// Lays a key. It is not inlined: there the compiler sees that the two do not overlap, and the archive for C asks for no `memmove`.
+#[inline(never)]
+fn lay_key(key: &[u8], out: &mut [u8], at: usize)
+    requires { at + length key.now ≤ length out.old }
+    ensures { out.new ≡ pasted out.old at key.now }
+{
+    put(out, at, key);
+}
+
 // Writes the key of record i at `at`: the place behind it.
 fn write_item(records: &[u8], i: usize, out: &mut [u8], at: usize) -> usize
     requires { Stands records.now i × (at + length (item_field.bytes (item_of (record_at records.now i))) ≤ length out.old) }
@@ -27,7 +37,7 @@ fn write_item(records: &[u8], i: usize, out: &mut [u8], at: usize) -> usize
     let key = key_at(records, i);
     let n = key.len();
     out[at] = n as u8;
-    put(out, at + 1, key);
+    lay_key(key, out, at + 1);
     put(out, at + 1 + n, &opening_at(records, i));
     at + 33 + n
 }

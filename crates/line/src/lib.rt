@@ -52,7 +52,9 @@ impl Text {
     // What is written.
     pub fn as_bytes(&self) -> &[u8]
         requires { self.now.length ≤ 64 }
-        ensures { result.now ≡ take self.now.length self.now.bytes }
+        ensures value { result.now ≡ take self.now.length self.now.bytes }
+        ensures block { result.ref_ptr.0 ≡ self.entry.ref_ptr.0 }
+        ensures offset { result.ref_ptr.1 ≡ self.entry.ref_ptr.1 }
     {
         &self.bytes[..self.length]
     }

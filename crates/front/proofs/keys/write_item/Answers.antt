@@ -23,22 +23,22 @@ overflow_cast-out c = omega (arith, few c)
 pub bounds-out-at : goal.bounds-out-at
 bounds-out-at c = omega (arith, room c)
 
+pub lay_key-requires : goal.lay_key-requires
+lay_key-requires c =
+    omega (arith, room (goal.at.lay_key-requires c).After-key_at-key, length-set c.args.out.now c.args.at (length c.key_at-key.result.now))
+
 pub put-requires : goal.put-requires
 put-requires c =
-    omega (arith, room (goal.at.put-requires c).After-key_at-key, length-set c.args.out.now c.args.at (length c.key_at-key.result.now))
-
-pub put-requires-2 : goal.put-requires-2
-put-requires-2 c =
-    omega (arith, room (goal.at.put-requires-2 c).After-key_at-key, length-set c.args.out.now c.args.at (length c.key_at-key.result.now), c.put.auto.dst, c.opening_at.type_inv)
+    omega (arith, room (goal.at.put-requires c).After-key_at-key, length-set c.args.out.now c.args.at (length c.key_at-key.result.now), c.lay_key.auto.out, c.opening_at.type_inv)
 
 pub overflow_add-result-2 : goal.overflow_add-result-2
 overflow_add-result-2 c = let h = room (goal.at.overflow_add-result-2 c).After-key_at-key in search rules
 
 pub shape_of-out : goal.shape_of-out
 shape_of-out c =
-    c.put-2.auto.dst ∙ c.put.auto.dst ∙ length-set c.args.out.now c.args.at (length c.key_at-key.result.now)
+    c.put.auto.dst ∙ c.lay_key.auto.out ∙ length-set c.args.out.now c.args.at (length c.key_at-key.result.now)
 
 pub returns : goal.returns
 returns c =
     let a = c.args in
-    item-wrote a.records.now a.i c.requires.0 c.key_at-key.result.now c.opening_at.result c.key_at-key.ensures.bytes c.opening_at.ensures a.out.now c.put.new.dst c.put-2.new.dst a.at c.requires.1 c.put.ensures c.put-2.ensures
+    item-wrote a.records.now a.i c.requires.0 c.key_at-key.result.now c.opening_at.result c.key_at-key.ensures.bytes c.opening_at.ensures a.out.now c.lay_key.new.out c.put.new.dst a.at c.requires.1 c.lay_key.ensures c.put.ensures
