@@ -77,7 +77,9 @@ fn try_answer<I: Read, O: Write>(
     }
 }
 
-// Answers a request, also one that can't be read.
+// Answers a request, also one that can't be read. It is not inlined: its row of leaves would lie in the driver's own frame, above those of
+// the writers.
+#[inline(never)]
 pub fn answer<I: Read, O: Write>(
     input: &mut I,
     output: &mut O,
