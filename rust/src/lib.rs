@@ -5,7 +5,7 @@
 //! this crate only hands slices over and names the numbers that come back, and [`read_history`] reads keys and epochs out of an accepted history.
 //!
 //! [`publish`] takes 1.3 MB of stack and a writer 2.3 MB, more than a thread of Rust's has by default: give a thread that calls them 4 MiB
-//! ([`std::thread::Builder::stack_size`]). A checker takes 104 KB at most.
+//! ([`std::thread::Builder::stack_size`]). A checker takes 77 KB at most.
 //!
 //! ```
 //! use noonhaggle::{check_lookup, publish, start, update, write_lookup, Lookup, Refusal};
