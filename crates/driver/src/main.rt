@@ -2,6 +2,9 @@
 // from standard input until that ends, and writes a line for each.
 #![tactic(auto)]
 
+#[cfg(test)]
+mod tests;
+
 use reply::print_bad;
 use std::io::{Read, Write};
 use wire::{Call, Request, Space, Spare, Unreadable, next_request};
@@ -25,11 +28,11 @@ fn answer<I: Read, O: Write>(
     spare: &mut Spare,
 ) {
     match Call::try_from(number) {
-        Ok(Call::Handset(call)) => handset_calls::answer(input, output, call, request, space),
-        Ok(Call::Tree(call)) => tree_calls::answer(input, output, call, request, space),
-        Ok(Call::Server(call)) => server_calls::answer(input, output, call, request, space, spare),
-        Ok(Call::Proof(call)) => writer_calls::answer(input, output, call, request, space, spare),
-        Ok(Call::Audit) => writer_calls::answer_audit(input, output, request, space, spare),
+        Ok(Call::Handset(call)) => handset_calls::serve(input, output, call, request, space),
+        Ok(Call::Tree(call)) => tree_calls::serve(input, output, call, request, space),
+        Ok(Call::Server(call)) => server_calls::serve(input, output, call, request, space, spare),
+        Ok(Call::Proof(call)) => writer_calls::serve(input, output, call, request, space, spare),
+        Ok(Call::Audit) => writer_calls::serve_audit(input, output, request, space, spare),
         Err(Unreadable) => print_bad(input, output, request),
     }
 }

@@ -1,6 +1,8 @@
 // The driver's calls of the handset: the checkers, the checking program's line, and what they rest on. docs/DRIVER.md has each call's
-// fields and answer. A call is one function that answers a request, and one arm of `try_answer`.
+// fields and answer. A call is one function that answers a request, and one arm of `answer`.
 #![tactic(auto)]
+
+ghost use Rattle.wire.specs.Took.{Answered};
 
 use paper::{AcceptedAudit, AcceptedHistory, AcceptedLookup};
 use reply::{print_bad, print_bytes, print_number, print_refused, print_text};
@@ -13,7 +15,9 @@ fn call_sha256<I: Read, O: Write>(
     output: &mut O,
     request: &mut Request,
     space: &mut Space,
-) -> Result<(), Unreadable> {
+) -> Result<(), Unreadable>
+    ensures { Answered request.old request.new result }
+{
     let n = request.read_at(input, space, 0, 65_536)?;
     request.end()?;
     print_bytes(output, &sha256::sha256(&space[..n]));
@@ -27,7 +31,9 @@ fn call_first_difference<I: Read, O: Write>(
     output: &mut O,
     request: &mut Request,
     space: &mut Space,
-) -> Result<(), Unreadable> {
+) -> Result<(), Unreadable>
+    ensures { Answered request.old request.new result }
+{
     let m = request.read_at(input, space, 0, 64)?;
     let n = request.read_at(input, space, 64, 64)?;
     request.end()?;
@@ -43,7 +49,9 @@ fn call_history_paths<I: Read, O: Write>(
     input: &mut I,
     output: &mut O,
     request: &mut Request,
-) -> Result<(), Unreadable> {
+) -> Result<(), Unreadable>
+    ensures { Answered request.old request.new result }
+{
     let n = u16::from_be_bytes(request.read_array(input)?);
     let epoch = u32::from_be_bytes(request.read_array(input)?);
     request.end()?;
@@ -64,7 +72,9 @@ fn read_fields<'a, I: Read>(
     input: &mut I,
     request: &mut Request,
     space: &'a mut Space,
-) -> Result<Fields<'a>, Unreadable> {
+) -> Result<Fields<'a>, Unreadable>
+    ensures { Answered request.old request.new result }
+{
     let k = request.read_at(input, space, 0, 256)?;
     let m = request.read_at(input, space, 256, 256)?;
     let n = request.read_at(input, space, 512, 3_276_800)?;
@@ -158,20 +168,25 @@ fn call_program<I: Read, O: Write>(
     output: &mut O,
     request: &mut Request,
     space: &mut Space,
-) -> Result<(), Unreadable> {
+) -> Result<(), Unreadable>
+    ensures { Answered request.old request.new result }
+{
     let n = request.read_at(input, space, 0, 131_072)?;
     request.end()?;
     print_text(output, line::program_line(&space[..n]).as_bytes());
     Ok(())
 }
 
-fn try_answer<I: Read, O: Write>(
+// Reads and answers a request: one that can't be read has no answer.
+pub fn answer<I: Read, O: Write>(
     input: &mut I,
     output: &mut O,
     call: HandsetCall,
     request: &mut Request,
     space: &mut Space,
-) -> Result<(), Unreadable> {
+) -> Result<(), Unreadable>
+    ensures { Answered request.old request.new result }
+{
     match call {
         HandsetCall::Sha256 => return call_sha256(input, output, request, space),
         HandsetCall::FirstDifference => return call_first_difference(input, output, request, space),
@@ -185,14 +200,14 @@ fn try_answer<I: Read, O: Write>(
 }
 
 // Answers a request, also one that can't be read.
-pub fn answer<I: Read, O: Write>(
+pub fn serve<I: Read, O: Write>(
     input: &mut I,
     output: &mut O,
     call: HandsetCall,
     mut request: Request,
     space: &mut Space,
 ) {
-    if try_answer(input, output, call, &mut request, space).is_err() {
+    if answer(input, output, call, &mut request, space).is_err() {
         print_bad(input, output, request);
     }
 }

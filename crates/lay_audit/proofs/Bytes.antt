@@ -26,6 +26,7 @@ use Rattle.leaf_row.specs.Row.{as_nodes, Sized}
 use Rattle.leaf_row.proofs.Rows.{nodes-length}
 use Rattle.tree.specs.Stored.{Sorted}
 use Rattle.tree.specs.declared.StoredTree.{StoredTree}
+use Rattle.tree.proofs.Slots.{kept-lent}
 use Rattle.path_fields.specs.Written.{Wrote}
 use Rattle.tree_path.proofs.Root as Root
 use Rattle.path_fields.proofs.Writing.{laid_next}
@@ -34,7 +35,7 @@ use Rattle.subtrees.proofs.Records.{list-size}
 use Rattle.front.proofs.Front.{head-parts, previous-some}
 use Rattle.audit_form.specs.Places.{count_at, records_at}
 use Rattle.audit_form.proofs.Form.{ListStands, list-stands}
-use Rattle.lay_audit.specs.Audited.{head_with, root_before, audit_with, bytes_with, new_with, NewLaid, Step, Listable}
+use Rattle.lay_audit.specs.Audited.{head_with, root_before, audit_with, bytes_with, new_with, NewLaid, Step, Listable, ListableLent}
 
 -- ---- a head
 
@@ -186,12 +187,19 @@ pub rows-size : (heads : Bytes) (t : ℕ) (A O : List Node) → Step heads t →
     → length (bytes_with heads t A O) ≡ 214 + (length (below_root t (root A)) + length (below_root t (root O))) * 99
 rows-size heads t A O step wa wo = with_size heads t A O step ∙ omega (arith, new-size heads t A O step, list-size t A wa.sized, list-size t O wo.sized)
 
+-- a tree that may be listed may be lent for it
+pub listable-lent : (T : StoredTree) → Listable T → ListableLent T
+listable-lent T k = record { tree = kept-lent T k.tree; few = k.few }
+
 -- "audit records per tree | 0 to 16,384": there are no more records than leaves
-pub list-few : (t : ℕ) (T : StoredTree) → Sized (as_nodes T.leaves.now) → Listable T → length (below_root t (root (as_nodes T.leaves.now))) ≤ 16384
-list-few t T s k =
+pub lent-few : (t : ℕ) (T : StoredTree) → Sized (as_nodes T.leaves.now) → ListableLent T → length (below_root t (root (as_nodes T.leaves.now))) ≤ 16384
+lent-few t T s k =
     let S = as_nodes T.leaves.now in
     let w : Sorted S = record { sized = s; rises = k.tree.rises } in
     omega (arith, root-few t S T.sides.split w (Root.parts S T.slots.now T.sides w k.tree.stored), nodes-length T.leaves.now, k.few)
+
+pub list-few : (t : ℕ) (T : StoredTree) → Listable T → length (below_root t (root (as_nodes T.leaves.now))) ≤ 16384
+list-few t T k = lent-few t T k.tree.sorted.sized (listable-lent T k)
 
 -- a head as its roots were found
 pub head-found : (heads : Bytes) (t : ℕ) (o : Bytes) (at : ℕ) {a b x y : Bytes} → a ≡ x → b ≡ y → pasted o at (head_field.bytes (head_with heads t a b)) ≡ pasted o at (head_field.bytes (head_with heads t x y))

@@ -8,7 +8,7 @@ use Rattle.paper.specs.Fields.{head_field}
 use Rattle.paper.specs.Audit.{Audit, olds, list_field, audit_field}
 use Rattle.paper.specs.Table.{previous_head}
 use Rattle.paper.specs.Write.{below_root}
-use Rattle.tree.specs.Stored.{Lent}
+use Rattle.tree.specs.Stored.{Kept, Lent}
 use Rattle.tree.specs.declared.StoredTree.{StoredTree}
 
 -- the head of epoch t over two roots
@@ -47,5 +47,10 @@ pub record Step (heads : Bytes) (t : ℕ) : Type 0 where
 
 -- a tree is stored, with no more leaves than a list may have
 pub record Listable (t : StoredTree) : Type 0 where
+  pub tree : Kept t
+  pub few : length t.leaves.now ≤ audit_most
+
+-- the same of a tree that is lent
+pub record ListableLent (t : StoredTree) : Type 0 where
   pub tree : Lent t
   pub few : length t.leaves.now ≤ audit_most

@@ -7,7 +7,7 @@ ghost use Rattle.paper.specs.Tree.{root_digest};
 ghost use Rattle.paper.specs.Audit.{olds, in_order};
 ghost use Rattle.leaf_row.specs.Row.{as_nodes};
 ghost use Rattle.audit_form.specs.Places.{count_at, records_at, Listed};
-ghost use Rattle.lay_audit.specs.Audited.{head_with, new_with, bytes_with, NewLaid, Step, Listable};
+ghost use Rattle.lay_audit.specs.Audited.{head_with, new_with, bytes_with, NewLaid, Step, ListableLent};
 
 use front::previous_head;
 use leaf_row::are_leaves;
@@ -37,7 +37,7 @@ fn lay_new(
     old: &StoredTree<'_>,
     out: &mut [u8],
 ) -> usize
-    requires { Step heads.now epoch × Listable all.now × Listable old.now × (106 + length (new_with heads.now epoch (as_nodes all.now.leaves.now) (as_nodes old.now.leaves.now)) ≤ length out.old) }
+    requires { Step heads.now epoch × ListableLent all.now × ListableLent old.now × (106 + length (new_with heads.now epoch (as_nodes all.now.leaves.now) (as_nodes old.now.leaves.now)) ≤ length out.old) }
     ensures { NewLaid heads.now epoch (as_nodes all.now.leaves.now) (as_nodes old.now.leaves.now) out.old out.new result }
 {
     write_head(heads, epoch, &all.root(), &old.root(), out, 106);
@@ -63,7 +63,7 @@ pub(crate) fn lay(
     old: &StoredTree<'_>,
     out: &mut [u8],
 )
-    requires { Step heads.now epoch × Listable all.now × Listable old.now × (length (bytes_with heads.now epoch (as_nodes all.now.leaves.now) (as_nodes old.now.leaves.now)) ≤ length out.old) }
+    requires { Step heads.now epoch × ListableLent all.now × ListableLent old.now × (length (bytes_with heads.now epoch (as_nodes all.now.leaves.now) (as_nodes old.now.leaves.now)) ≤ length out.old) }
     ensures { out.new ≡ pasted out.old 0 (bytes_with heads.now epoch (as_nodes all.now.leaves.now) (as_nodes old.now.leaves.now)) }
 {
     are_leaves(all.leaves);

@@ -7,7 +7,7 @@ mod lay;
 ghost use Rattle.std.specs.Prelude.{◌≡◌, true};
 ghost use Rattle.leaf_row.specs.Row.{as_nodes};
 ghost use Rattle.tested.specs.Tested.{weighed};
-ghost use Rattle.lay_audit.specs.Audited.{bytes_with, Step, Listable};
+ghost use Rattle.lay_audit.specs.Audited.{bytes_with, Step, ListableLent};
 
 use lay::lay;
 use leaf_row::are_leaves;
@@ -25,7 +25,7 @@ pub fn lay_audit(
     old: &StoredTree<'_>,
     out: &mut [u8],
 ) -> WriteAnswer
-    requires { Step heads.now epoch × Listable all.now × Listable old.now }
+    requires { Step heads.now epoch × ListableLent all.now × ListableLent old.now }
     ensures { record { answer = result; out = out.new } ≡ weighed state out.old true (bytes_with heads.now epoch (as_nodes all.now.leaves.now) (as_nodes old.now.leaves.now)) }
 {
     are_leaves(all.leaves);

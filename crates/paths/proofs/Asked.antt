@@ -26,12 +26,14 @@ use Rattle.plan.specs.declared.Place.{Place}
 use Rattle.plan.specs.declared.Place.TheVariants.{InAll, InOld, AsMarker}
 use Rattle.plan.specs.declared.Asked.{Asked}
 use Rattle.leaf_row.specs.Row.{as_nodes}
-use Rattle.tree.specs.Stored.{Lent}
+use Rattle.tree.specs.Stored.{Sorted, Kept, Lent}
+use Rattle.tree.specs.declared.StoredTree.{StoredTree}
+use Rattle.tree.proofs.Slots.{kept-lent}
 use Rattle.forest.specs.declared.Trees.{Trees}
 use Rattle.plan.proofs.Places.{place-back}
 use Rattle.path_fields.specs.Written.{Wrote}
 use Rattle.path_fields.proofs.Writing.{times-append, times-one, wrote-next}
-use Rattle.paths.specs.Paths.{wanted, leaves_for, path_for, free_for, path_bytes, Sized, tree_for, all_of, old_of, Ordered, Ready}
+use Rattle.paths.specs.Paths.{wanted, leaves_for, path_for, free_for, path_bytes, Sized, tree_for, all_of, old_of, Ordered, Ready, OrderedLent, ReadyLent}
 
 -- what the plan asks is what is wanted
 pub wanted-back : (a : P.Asked) → wanted (asked a) ≡ a
@@ -43,16 +45,31 @@ every-fails f [] i d h e = absurd (omega arith)
 every-fails f (x ∷ l) zero d h e = rw e
 every-fails f (x ∷ l) (suc i) d h e = rw (every-fails f l i d (omega arith) e) (and-false (f x))
 
--- the tree of a place is in order, or stored, over the leaves of the place
-pub tree-sorted : (t : Trees) (name : Bytes) (x : Place) → Ordered t name → rising (as_nodes (tree_for t x).leaves.now) ≡ true
-tree-sorted t name (InAll i) w = w.all
-tree-sorted t name (InOld i) w = w.old
-tree-sorted t name (AsMarker j) w = w.all
+-- trees in order, or stored, may be lent
+pub ordered-lent : (t : Trees) (name : Bytes) → Ordered t name → OrderedLent t name
+ordered-lent t name w = record { all = w.all.rises; old = w.old.rises; short = w.short }
 
-pub tree-kept : (t : Trees) (name : Bytes) (x : Place) → Ready t name → Lent (tree_for t x)
-tree-kept t name (InAll i) w = w.all
-tree-kept t name (InOld i) w = w.old
-tree-kept t name (AsMarker j) w = w.all
+pub ready-lent : (t : Trees) (name : Bytes) → Ready t name → ReadyLent t name
+ready-lent t name w = record { all = kept-lent t.all w.all; old = kept-lent t.old w.old; short = w.short }
+
+-- what holds of both trees holds of that of a place
+of-place : (P : StoredTree → Type 0) (t : Trees) (x : Place) → P t.all → P t.old → P (tree_for t x)
+of-place P t (InAll i) a o = a
+of-place P t (InOld i) a o = o
+of-place P t (AsMarker j) a o = a
+
+-- the tree of a place is in order, or stored, over the leaves of the place
+pub tree-sorted : (t : Trees) (name : Bytes) (x : Place) → Ordered t name → Sorted (as_nodes (tree_for t x).leaves.now)
+tree-sorted t name x w = of-place (λ t. Sorted (as_nodes t.leaves.now)) t x w.all w.old
+
+pub tree-kept : (t : Trees) (name : Bytes) (x : Place) → Ready t name → Kept (tree_for t x)
+tree-kept t name x w = of-place Kept t x w.all w.old
+
+pub tree-rises : (t : Trees) (name : Bytes) (x : Place) → OrderedLent t name → rising (as_nodes (tree_for t x).leaves.now) ≡ true
+tree-rises t name x w = of-place (λ t. rising (as_nodes t.leaves.now) ≡ true) t x w.all w.old
+
+pub tree-lent : (t : Trees) (name : Bytes) (x : Place) → ReadyLent t name → Lent (tree_for t x)
+tree-lent t name x w = of-place Lent t x w.all w.old
 
 pub tree-leaves : (t : Trees) (name : Bytes) (x : Place) → as_nodes (tree_for t x).leaves.now ≡ leaves_for name (all_of t) (old_of t) (place_of x)
 tree-leaves t name (InAll i) = refl

@@ -16,7 +16,7 @@ use Rattle.plan.specs.declared.Place.{Place}
 use Rattle.plan.specs.declared.Place.TheVariants.{InAll, InOld, AsMarker}
 use Rattle.plan.specs.declared.Asked.{Asked}
 use Rattle.leaf_row.specs.Row.{as_nodes}
-use Rattle.tree.specs.Stored.{Lent}
+use Rattle.tree.specs.Stored.{Sorted, Kept, Lent}
 use Rattle.tree.specs.declared.StoredTree.{StoredTree}
 use Rattle.forest.specs.declared.Trees.{Trees}
 
@@ -67,12 +67,23 @@ old_of t = as_nodes t.old.leaves.now
 
 -- the leaves of both trees are in bit order, and the name is short enough for a label
 pub record Ordered (t : Trees) (name : Bytes) : Type 0 where
-  pub all : rising (all_of t) ≡ true
-  pub old : rising (old_of t) ≡ true
+  pub all : Sorted (all_of t)
+  pub old : Sorted (old_of t)
   pub short : length name ≤ name_most
 
 -- both trees are stored, and the name is short enough for a label
 pub record Ready (t : Trees) (name : Bytes) : Type 0 where
+  pub all : Kept t.all
+  pub old : Kept t.old
+  pub short : length name ≤ name_most
+
+-- the same of trees that are lent, of whose leaves the type of a row says all but their order
+pub record OrderedLent (t : Trees) (name : Bytes) : Type 0 where
+  pub all : rising (all_of t) ≡ true
+  pub old : rising (old_of t) ≡ true
+  pub short : length name ≤ name_most
+
+pub record ReadyLent (t : Trees) (name : Bytes) : Type 0 where
   pub all : Lent t.all
   pub old : Lent t.old
   pub short : length name ≤ name_most

@@ -9,7 +9,7 @@ ghost use Rattle.paper.specs.Table.{holds};
 ghost use Rattle.paper.specs.Level.{rising};
 ghost use Rattle.leaf_row.specs.Row.{as_nodes};
 ghost use Rattle.plan.specs.Asked.{asked_of};
-ghost use Rattle.paths.specs.Paths.{wanted, path_for, free_for, path_bytes, all_of, old_of, Ordered, Measured, Sized};
+ghost use Rattle.paths.specs.Paths.{wanted, path_for, free_for, path_bytes, all_of, old_of, OrderedLent, Measured, Sized};
 
 use crate::tree_of;
 use forest::Trees;
@@ -32,7 +32,7 @@ fn measure_in(tree: &StoredTree<'_>, label: &[u8; 32], there: bool) -> Option<us
 
 // The path for what is asked, in the tree of its place.
 fn measure_path(trees: &Trees<'_>, name: &[u8], asked: Asked) -> Option<usize>
-    requires { Ordered trees.now name.now }
+    requires { OrderedLent trees.now name.now }
     ensures { Sized (free_for name.now (all_of trees.now) (old_of trees.now) (wanted asked)) (path_field.bytes (path_for name.now (all_of trees.now) (old_of trees.now) (wanted asked))) result }
 {
     let Asked { place, there } = asked;
@@ -41,7 +41,7 @@ fn measure_path(trees: &Trees<'_>, name: &[u8], asked: Asked) -> Option<usize>
 
 // All paths that are asked.
 pub fn measure_paths(trees: &Trees<'_>, name: &[u8], plan: Plan) -> Option<usize>
-    requires { Ordered trees.now name.now × (length (asked_of plan) ≤ 200000) }
+    requires { OrderedLent trees.now name.now × (length (asked_of plan) ≤ 200000) }
     ensures { Measured (every (free_for name.now (all_of trees.now) (old_of trees.now)) (asked_of plan)) (path_bytes name.now (all_of trees.now) (old_of trees.now) (asked_of plan)) result }
 {
     let mut sum = 0;

@@ -3,7 +3,7 @@ ghost use Rattle.std.specs.Prelude.{◌+◌, ◌≤◌, length};
 ghost use Rattle.paper.specs.Fields.{path_field};
 ghost use Rattle.path_fields.specs.Written.{Wrote};
 ghost use Rattle.plan.specs.Asked.{asked_of};
-ghost use Rattle.paths.specs.Paths.{wanted, path_for, path_bytes, all_of, old_of, Ready};
+ghost use Rattle.paths.specs.Paths.{wanted, path_for, path_bytes, all_of, old_of, ReadyLent};
 
 use crate::tree_of;
 use forest::Trees;
@@ -12,7 +12,7 @@ use write_path::write_path;
 
 // The path for what is asked, in the tree of its place, at `at`: the place behind it.
 fn write_one(trees: &Trees<'_>, name: &[u8], asked: Asked, out: &mut [u8], at: usize) -> usize
-    requires { Ready trees.now name.now × (at + length (path_field.bytes (path_for name.now (all_of trees.now) (old_of trees.now) (wanted asked))) ≤ length out.old) }
+    requires { ReadyLent trees.now name.now × (at + length (path_field.bytes (path_for name.now (all_of trees.now) (old_of trees.now) (wanted asked))) ≤ length out.old) }
     ensures { Wrote out.old at (path_field.bytes (path_for name.now (all_of trees.now) (old_of trees.now) (wanted asked))) out.new result }
 {
     let label = asked.place.label(name);
@@ -21,7 +21,7 @@ fn write_one(trees: &Trees<'_>, name: &[u8], asked: Asked, out: &mut [u8], at: u
 
 // All paths that are asked, from `at` on: the place behind them.
 pub fn write_paths(trees: &Trees<'_>, name: &[u8], plan: Plan, out: &mut [u8], at: usize) -> usize
-    requires { Ready trees.now name.now × (at + length (path_bytes name.now (all_of trees.now) (old_of trees.now) (asked_of plan)) ≤ length out.old) }
+    requires { ReadyLent trees.now name.now × (at + length (path_bytes name.now (all_of trees.now) (old_of trees.now) (asked_of plan)) ≤ length out.old) }
     ensures { Wrote out.old at (path_bytes name.now (all_of trees.now) (old_of trees.now) (asked_of plan)) out.new result }
 {
     let mut next = at;

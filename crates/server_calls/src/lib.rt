@@ -1,6 +1,8 @@
 // The driver's calls of the server: starting a directory and publishing. docs/DRIVER.md has each call's fields and answer. A
-// call is one function, which reads its fields and answers a whole request, and one arm of `try_answer`.
+// call is one function, which reads its fields and answers a whole request, and one arm of `answer`.
 #![tactic(auto)]
+
+ghost use Rattle.wire.specs.Took.{Answered};
 
 use paper::State;
 use reply::{print_bad, print_bytes, print_number, print_refused, print_text};
@@ -33,7 +35,9 @@ fn call_start<I: Read, O: Write>(
     output: &mut O,
     request: &mut Request,
     space: &mut Space,
-) -> Result<(), Unreadable> {
+) -> Result<(), Unreadable>
+    ensures { Answered request.old request.new result }
+{
     let n = request.read_at(input, space, 0, 2_097_184)?;
     request.end()?;
     answer_start(output, &mut space[..n]);
@@ -73,7 +77,9 @@ fn call_publish<I: Read, O: Write>(
     request: &mut Request,
     space: &mut Space,
     spare: &mut Spare,
-) -> Result<(), Unreadable> {
+) -> Result<(), Unreadable>
+    ensures { Answered request.old request.new result }
+{
     let mut batch = blank_batch();
     let k = request.read_at(input, spare, 0, 688_296)?;
     let m = request.read_at(input, space, 0, 2_097_184)?;
@@ -91,14 +97,17 @@ fn call_publish<I: Read, O: Write>(
     Ok(())
 }
 
-fn try_answer<I: Read, O: Write>(
+// Reads and answers a request: one that can't be read has no answer.
+pub fn answer<I: Read, O: Write>(
     input: &mut I,
     output: &mut O,
     call: ServerCall,
     request: &mut Request,
     space: &mut Space,
     spare: &mut Spare,
-) -> Result<(), Unreadable> {
+) -> Result<(), Unreadable>
+    ensures { Answered request.old request.new result }
+{
     match call {
         ServerCall::Start => call_start(input, output, request, space),
         ServerCall::Publish => call_publish(input, output, request, space, spare),
@@ -106,7 +115,7 @@ fn try_answer<I: Read, O: Write>(
 }
 
 // Answers a request, also one that can't be read.
-pub fn answer<I: Read, O: Write>(
+pub fn serve<I: Read, O: Write>(
     input: &mut I,
     output: &mut O,
     call: ServerCall,
@@ -114,7 +123,7 @@ pub fn answer<I: Read, O: Write>(
     space: &mut Space,
     spare: &mut Spare,
 ) {
-    if try_answer(input, output, call, &mut request, space, spare).is_err() {
+    if answer(input, output, call, &mut request, space, spare).is_err() {
         print_bad(input, output, request);
     }
 }

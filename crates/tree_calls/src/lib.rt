@@ -1,6 +1,8 @@
 // The driver's calls of the tree level. docs/DRIVER.md has each call's fields and answer. A call is one function, which reads its fields and
-// answers a whole request, and one arm of `try_answer`.
+// answers a whole request, and one arm of `answer`.
 #![tactic(auto)]
+
+ghost use Rattle.wire.specs.Took.{Answered};
 
 use reply::{print_bad, print_bytes, print_refused, print_text};
 use std::io::{Read, Write};
@@ -23,7 +25,9 @@ fn call_tree_root<I: Read, O: Write>(
     output: &mut O,
     request: &mut Request,
     space: &mut Space,
-) -> Result<(), Unreadable> {
+) -> Result<(), Unreadable>
+    ensures { Answered request.old request.new result }
+{
     let n = request.read_at(input, space, 0, 557_124)?;
     request.end()?;
     answer_tree_root(output, &space[..n]);
@@ -53,7 +57,9 @@ fn call_tree_path<I: Read, O: Write>(
     output: &mut O,
     request: &mut Request,
     space: &mut Space,
-) -> Result<(), Unreadable> {
+) -> Result<(), Unreadable>
+    ensures { Answered request.old request.new result }
+{
     let behind = 557_124;
     let m = request.read_at(input, space, 0, behind)?;
     let n = request.read_at(input, space, behind, 256)?;
@@ -64,13 +70,16 @@ fn call_tree_path<I: Read, O: Write>(
     Ok(())
 }
 
-fn try_answer<I: Read, O: Write>(
+// Reads and answers a request: one that can't be read has no answer.
+pub fn answer<I: Read, O: Write>(
     input: &mut I,
     output: &mut O,
     call: TreeCall,
     request: &mut Request,
     space: &mut Space,
-) -> Result<(), Unreadable> {
+) -> Result<(), Unreadable>
+    ensures { Answered request.old request.new result }
+{
     match call {
         TreeCall::Root => call_tree_root(input, output, request, space),
         TreeCall::Path => call_tree_path(input, output, request, space),
@@ -80,14 +89,14 @@ fn try_answer<I: Read, O: Write>(
 // Answers a request, also one that can't be read. It is not inlined: its row of leaves would lie in the driver's own frame, above those of
 // the writers.
 #[inline(never)]
-pub fn answer<I: Read, O: Write>(
+pub fn serve<I: Read, O: Write>(
     input: &mut I,
     output: &mut O,
     call: TreeCall,
     mut request: Request,
     space: &mut Space,
 ) {
-    if try_answer(input, output, call, &mut request, space).is_err() {
+    if answer(input, output, call, &mut request, space).is_err() {
         print_bad(input, output, request);
     }
 }

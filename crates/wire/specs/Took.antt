@@ -14,6 +14,10 @@ After r s result n = MatchResult result (λ _. s.left + n ≡ r.left) (λ _. s.l
 abbrev pub Took : {E : Type 0} → Request → Request → Result ℕ E → List ℕ → Type 0
 Took r s result b = MatchResult result (λ n. IsPrefixLen n b × (s.left + (4 + n) ≡ r.left)) (λ _. s.left ≤ r.left)
 
+-- The rest s of a request r after its call: one that was answered was read whole, and one that can't be read leaves no more than there was.
+abbrev pub Answered : {T E : Type 0} → Request → Request → Result T E → Type 0
+Answered r s result = MatchResult result (λ _. s.left ≡ 0) (λ _. s.left ≤ r.left)
+
 -- What a reader has left before and after, where its bytes are known.
 module _ (old new : Option (List ℕ)) where
   -- no more was taken than the request had more before than after

@@ -30,7 +30,6 @@ use Rattle.gather.specs.Gathered.{leaves_by}
 use Rattle.gather.proofs.Leaves.{by-few}
 use Rattle.leaf_row.specs.Row.{as_nodes}
 use Rattle.tree.specs.declared.StoredTree.{StoredTree}
-use Rattle.tree.proofs.Slots.{kept-lent}
 use Rattle.tested.specs.Tested.{weighed, Sound}
 use Rattle.tested.proofs.First.{heads-reach}
 use Rattle.tested.proofs.Weighed.{clash}
@@ -84,11 +83,11 @@ module _ (records heads : Bytes) (state : State) (out : Bytes) (t : ℕ) (s : So
     old-refused e = clash state out (clear_at t rs) (audit_field.bytes (audit_proof plain heads t rs)) (closed (distinct (all_at plain (t - 1) rs)) (distinct (old_at plain (t - 1) rs)) _ (ap₂ (λ x y. x && y) ca.alone e))
 
     pub all-listed : Listable a
-    all-listed = record { tree = kept-lent a ca.standing.kept; few = omega (arith, ca.standing.number, few OfAll) }
+    all-listed = record { tree = ca.standing.kept; few = omega (arith, ca.standing.number, few OfAll) }
 
     module _ (o : StoredTree) (co : Clear (old_at plain t rs) o) where
       pub old-listed : Listable o
-      old-listed = record { tree = kept-lent o co.standing.kept; few = omega (arith, co.standing.number, few OfOld) }
+      old-listed = record { tree = co.standing.kept; few = omega (arith, co.standing.number, few OfOld) }
 
       clear : clear_at t rs ≡ true
       clear = and_both (clear-then (all_leaves plain) (all-dated plain) rs t later ca.alone) (and_both (clear-then (old_leaves plain) (old-dated plain) rs t later co.alone) (and_both ca.alone co.alone))

@@ -24,7 +24,6 @@ use Rattle.record.specs.Places.{records_in}
 use Rattle.forest.specs.Grown.{Clear}
 use Rattle.leaf_row.specs.Row.{as_nodes}
 use Rattle.tree.specs.declared.StoredTree.{StoredTree}
-use Rattle.tree.proofs.Slots.{kept-lent}
 use Rattle.plan.specs.Asked.{asked_by}
 use Rattle.plan.specs.declared.Kind.{Kind}
 use Rattle.plan.specs.declared.Kind.TheVariants.{Lookup, History}
@@ -115,7 +114,7 @@ module _ (kind : Kind) (records heads : Bytes) (state : State) (out name : Bytes
 
     module _ (o : StoredTree) (co : Clear (old_at plain t rs) o) where
       pub ready : length name ≤ 64 → Ready (record { all = a; old = o }) name
-      ready s = record { all = kept-lent a ca.standing.kept; old = kept-lent o co.standing.kept; short = s }
+      ready s = record { all = ca.standing.kept; old = co.standing.kept; short = s }
 
       pub rest-is : Sound records heads state t → rest_by kind records heads state out name t ≡ judged kind records heads state out name t (as_nodes a.leaves.now) (as_nodes o.leaves.now)
       rest-is h =

@@ -3,7 +3,7 @@ ghost use Rattle.std.specs.Prelude.{◌≡◌, ◌+◌, ◌≤◌, length};
 ghost use Rattle.paper.specs.Tree.{root_digest};
 ghost use Rattle.path_fields.specs.Written.{Wrote};
 ghost use Rattle.front.specs.Front.{item_bytes, items_from};
-ghost use Rattle.paths.specs.Paths.{all_of, old_of, Ready};
+ghost use Rattle.paths.specs.Paths.{all_of, old_of, ReadyLent};
 ghost use Rattle.write_proof.specs.Judged.{before_with, Source};
 
 use forest::Trees;
@@ -21,7 +21,7 @@ pub(crate) fn lay_before(
     plan: Plan,
     out: &mut [u8],
 ) -> usize
-    requires { Source records.now heads.now count from plan.epoch × Ready trees.now name.now × (108 + length (item_bytes (items_from records.now name.now plan.epoch from count)) ≤ length out.old) }
+    requires { Source records.now heads.now count from plan.epoch × ReadyLent trees.now name.now × (108 + length (item_bytes (items_from records.now name.now plan.epoch from count)) ≤ length out.old) }
     ensures { Wrote out.old 0 (before_with heads.now (root_digest (all_of trees.now)) (root_digest (old_of trees.now)) (items_from records.now name.now plan.epoch from count) plan) out.new result }
 {
     write_front(

@@ -1,7 +1,7 @@
 // A lookup or history proof out of the two trees of its epoch as they are stored: "or a label to be shown absent is there", and "8 ROOM".
 // Its paths and keys are measured, and it is laid if it has room.
 ghost use Rattle.std.specs.Prelude.{◌≡◌};
-ghost use Rattle.paths.specs.Paths.{all_of, old_of, Ready};
+ghost use Rattle.paths.specs.Paths.{all_of, old_of, ReadyLent};
 ghost use Rattle.tested.specs.Tested.{Sound};
 ghost use Rattle.write_proof.specs.Judged.{judged};
 
@@ -25,7 +25,7 @@ pub(crate) fn lay_proof(
     trees: &Trees<'_>,
     out: &mut [u8],
 ) -> WriteAnswer
-    requires { Sound records.now heads.now state epoch × Ready trees.now name.now }
+    requires { Sound records.now heads.now state epoch × ReadyLent trees.now name.now }
     ensures { record { answer = result; out = out.new } ≡ judged kind records.now heads.now state out.old name.now epoch (all_of trees.now) (old_of trees.now) }
 {
     let count = state.count as usize;

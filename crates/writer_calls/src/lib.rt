@@ -3,6 +3,7 @@
 #![tactic(auto)]
 
 ghost use Rattle.std.specs.Prelude.{◌+◌, ◌≤◌, length, IfOk};
+ghost use Rattle.wire.specs.Took.{Answered};
 ghost use Rattle.writer_calls.specs.Inside.{Inside};
 
 use paper::{State, WriteAnswer};
@@ -26,7 +27,8 @@ fn read_tables<'a, I: Read>(
     space: &'a mut [u8],
 ) -> Result<Tables<'a>, Unreadable>
     requires { 688_296 + 2_097_184 ≤ length space.old }
-    ensures { IfOk result (λ t. (length t.records.now ≤ 688_296) × (length t.heads.now ≤ 2_097_184)) }
+    ensures room { IfOk result (λ t. (length t.records.now ≤ 688_296) × (length t.heads.now ≤ 2_097_184)) }
+    ensures left { request.new.left ≤ request.old.left }
 {
     let k = request.read_at(input, space, 0, 688_296)?;
     let m = request.read_at(input, space, 688_296, 2_097_184)?;
@@ -46,7 +48,8 @@ fn read_room<'a, I: Read>(
     request: &mut Request,
     spare: &'a mut Spare,
 ) -> Result<&'a mut [u8], Unreadable>
-    ensures { IfOk result (λ out. length out.now ≤ 1_200_000) }
+    ensures room { IfOk result (λ out. length out.now ≤ 1_200_000) }
+    ensures left { request.new.left ≤ request.old.left }
 {
     let room = u32::from_be_bytes(request.read_array(input)?) as usize;
     let most = room.min(spare.len());
@@ -87,15 +90,17 @@ fn print_written<O: Write>(output: &mut O, answer: WriteAnswer, out: &[u8])
     }
 }
 
-// Reads and answers call 12 or 13.
-fn try_answer<I: Read, O: Write>(
+// Reads and answers call 12 or 13: a request that can't be read has no answer.
+pub fn answer<I: Read, O: Write>(
     input: &mut I,
     output: &mut O,
     call: ProofCall,
     request: &mut Request,
     space: &mut Space,
     spare: &mut Spare,
-) -> Result<(), Unreadable> {
+) -> Result<(), Unreadable>
+    ensures { Answered request.old request.new result }
+{
     let (names, room) = space.split_at_mut(1024);
     let tables = read_tables(input, request, room)?;
     let n = request.read_field(input, names)?;
@@ -109,7 +114,7 @@ fn try_answer<I: Read, O: Write>(
 
 // Answers call 12 or 13, also one that can't be read.
 #[inline(never)]
-pub fn answer<I: Read, O: Write>(
+pub fn serve<I: Read, O: Write>(
     input: &mut I,
     output: &mut O,
     call: ProofCall,
@@ -117,19 +122,21 @@ pub fn answer<I: Read, O: Write>(
     space: &mut Space,
     spare: &mut Spare,
 ) {
-    if try_answer(input, output, call, &mut request, space, spare).is_err() {
+    if answer(input, output, call, &mut request, space, spare).is_err() {
         print_bad(input, output, request);
     }
 }
 
 // Reads and answers call 14.
-fn try_answer_audit<I: Read, O: Write>(
+pub fn answer_audit<I: Read, O: Write>(
     input: &mut I,
     output: &mut O,
     request: &mut Request,
     space: &mut Space,
     spare: &mut Spare,
-) -> Result<(), Unreadable> {
+) -> Result<(), Unreadable>
+    ensures { Answered request.old request.new result }
+{
     let (_, room) = space.split_at_mut(1024);
     let tables = read_tables(input, request, room)?;
     let epoch = u32::from_be_bytes(request.read_array(input)?);
@@ -143,14 +150,14 @@ fn try_answer_audit<I: Read, O: Write>(
 // Answers call 14, also one that can't be read. Neither is inlined: the compiler would join the frames of all three writers, with their
 // arrays, in one.
 #[inline(never)]
-pub fn answer_audit<I: Read, O: Write>(
+pub fn serve_audit<I: Read, O: Write>(
     input: &mut I,
     output: &mut O,
     mut request: Request,
     space: &mut Space,
     spare: &mut Spare,
 ) {
-    if try_answer_audit(input, output, &mut request, space, spare).is_err() {
+    if answer_audit(input, output, &mut request, space, spare).is_err() {
         print_bad(input, output, request);
     }
 }

@@ -10,7 +10,7 @@ use Rattle.leaf_row.specs.Row.{as_nodes}
 use Rattle.paper.specs.Answer.{written}
 use Rattle.tested.proofs.Weighed.{no_room, wrote}
 use Rattle.lay_audit.specs.Audited.{bytes_with}
-use Rattle.lay_audit.proofs.Bytes.{rows-size, list-few}
+use Rattle.lay_audit.proofs.Bytes.{rows-size, lent-few}
 use Rattle.lay_audit.proofs.lay_audit.Goals as goal
 use Rattle.lay_audit.proofs.lay_audit.Goals.{After-list_length-first, After-list_length-second, Else-not-has_room}
 
@@ -18,12 +18,12 @@ use Rattle.lay_audit.proofs.lay_audit.Goals.{After-list_length-first, After-list
 few : (c : After-list_length-first) → c.list_length-first.result ≤ 16384
 few c =
     let a = c.args in
-    omega (arith, c.list_length-first.ensures, list-few a.epoch a.all.now c.are_leaves.ensures c.requires.1)
+    omega (arith, c.list_length-first.ensures, lent-few a.epoch a.all.now c.are_leaves.ensures c.requires.1)
 
 few-2 : (c : After-list_length-second) → c.list_length-second.result ≤ 16384
 few-2 c =
     let a = c.args in
-    omega (arith, c.list_length-second.ensures, list-few a.epoch a.old.now c.are_leaves-2.ensures c.requires.2)
+    omega (arith, c.list_length-second.ensures, lent-few a.epoch a.old.now c.are_leaves-2.ensures c.requires.2)
 
 pub list_length-first-requires : goal.list_length-first-requires
 list_length-first-requires c = c.requires.1.tree.rises

@@ -13,7 +13,7 @@ use Rattle.ranges.proofs.Slices.{bytewise}
 use Rattle.tree_path.proofs.There.{leaf-set}
 use Rattle.audit_form.proofs.Form.{ListStands}
 use Rattle.lay_audit.specs.Audited.{new_with}
-use Rattle.lay_audit.proofs.Bytes.{with_size, laid-all, all-stands, old-stands, stands-order, stands-root, list-few, head-found}
+use Rattle.lay_audit.proofs.Bytes.{with_size, laid-all, all-stands, old-stands, stands-order, stands-root, lent-few, head-found}
 use Rattle.lay_audit.proofs.lay.lay.Goals as goal
 use Rattle.lay_audit.proofs.lay.lay.Goals.{After-lay_new-next, After-slice_known-2-1, Start}
 
@@ -44,13 +44,13 @@ first-list : (c : After-slice_known-2-1) → ListStands c.lay_new-next.new.out 2
 first-list c =
     let a = c.args in
     all-stands a.heads.now a.epoch (first-leaves (goal.at.After-slice_known-2-1 c).Start) (second-leaves (goal.at.After-slice_known-2-1 c).Start) c.requires.0 a.out.now c.lay_new-next.new.out c.lay_new-next.result (room (goal.at.After-slice_known-2-1 c).Start) c.lay_new-next.ensures (bytewise c.lay_new-next.new.out c.slice_known-2-1.given) (first-set (goal.at.After-slice_known-2-1 c).After-lay_new-next)
-    (list-few a.epoch a.all.now c.are_leaves.ensures c.requires.1)
+    (lent-few a.epoch a.all.now c.are_leaves.ensures c.requires.1)
 
 second-list : (c : After-slice_known-2-1) → ListStands c.lay_new-next.new.out c.lay_new-next.result (below_root c.args.epoch (root (second-leaves (goal.at.After-slice_known-2-1 c).Start)))
 second-list c =
     let a = c.args in
     old-stands a.heads.now a.epoch (first-leaves (goal.at.After-slice_known-2-1 c).Start) (second-leaves (goal.at.After-slice_known-2-1 c).Start) c.requires.0 a.out.now c.lay_new-next.new.out c.lay_new-next.result (room (goal.at.After-slice_known-2-1 c).Start) c.lay_new-next.ensures (bytewise c.lay_new-next.new.out c.slice_known-2-1.given) (second-set (goal.at.After-slice_known-2-1 c).After-lay_new-next)
-    (list-few a.epoch a.old.now c.are_leaves-2.ensures c.requires.2)
+    (lent-few a.epoch a.old.now c.are_leaves-2.ensures c.requires.2)
 
 pub root_before-all_before-requires : goal.root_before-all_before-requires
 root_before-all_before-requires c =

@@ -1,6 +1,7 @@
 -- `write_audit::trees::write_beside`: tree *old* is grown, and the proof is laid over both.
 use native.Mathlib.Omega.{arith}
 use mathlib.Core.Path.{sym, ◌∙◌}
+use Rattle.lay_audit.proofs.Bytes.{listable-lent}
 use Rattle.write_audit.proofs.Same.{step, old-refused, all-listed, old-listed, rest-is}
 use Rattle.write_audit.proofs.trees.write_beside.Goals as goal
 
@@ -16,8 +17,8 @@ pub lay_audit-requires : goal.lay_audit-requires
 lay_audit-requires c =
     let a = c.args in (
       step a.records.now a.heads.now a.state a.out.now a.epoch c.requires.0 c.requires.1,
-      all-listed a.records.now a.heads.now a.state a.out.now a.epoch c.requires.0 c.requires.1 a.all.now c.requires.2,
-      old-listed a.records.now a.heads.now a.state a.out.now a.epoch c.requires.0 c.requires.1 a.all.now c.requires.2 c.in-Some.old c.in-Some.ensures,
+      listable-lent _ (all-listed a.records.now a.heads.now a.state a.out.now a.epoch c.requires.0 c.requires.1 a.all.now c.requires.2),
+      listable-lent _ (old-listed a.records.now a.heads.now a.state a.out.now a.epoch c.requires.0 c.requires.1 a.all.now c.requires.2 c.in-Some.old c.in-Some.ensures),
     )
 
 pub returns : goal.returns
