@@ -64,8 +64,8 @@ fn main(rt: HostRuntime) {
 
 #[cfg(test)]
 mod tests {
-    // Each crate's calls by themselves: a request that is read whole is answered, and of one with a byte more that byte is left, and nothing is
-    // written.
+    // Each crate's calls by themselves: a request that is read whole is answered, and of one with a byte more that byte is left, and nothing
+    // is written.
     use super::{blank, blank_spare};
     use wire::{HandsetCall, ProofCall, Request, ServerCall, TreeCall, Unreadable};
 
@@ -94,7 +94,7 @@ mod tests {
                 ),
                 answer
             );
-            assert_eq!(rt; (written, request.left), (line, left - 10));
+            assert_eq!(rt; (written, request.left, input.len()), (line, left - 10, 1));
         }
     }
 
@@ -116,7 +116,7 @@ mod tests {
                 ),
                 answer
             );
-            assert_eq!(rt; (written, request.left), (line, left - 5));
+            assert_eq!(rt; (written, request.left, input.len()), (line, left - 5, 1));
         }
     }
 
@@ -140,7 +140,7 @@ mod tests {
                 ),
                 answer
             );
-            assert_eq!(rt; (written, request.left), (line, left - 4));
+            assert_eq!(rt; (written, request.left, input.len()), (line, left - 4, 1));
         }
     }
 
@@ -165,7 +165,7 @@ mod tests {
                 ),
                 answer
             );
-            assert_eq!(rt; (written, request.left), (line, left - 44));
+            assert_eq!(rt; (written, request.left, input.len()), (line, left - 44, 1));
         }
     }
 
@@ -188,7 +188,7 @@ mod tests {
                 ),
                 answer
             );
-            assert_eq!(rt; (written, request.left), (line, left - 40));
+            assert_eq!(rt; (written, request.left, input.len()), (line, left - 40, 1));
         }
     }
 }

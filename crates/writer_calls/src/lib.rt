@@ -147,8 +147,8 @@ pub fn answer_audit<I: Read, O: Write>(
     Ok(())
 }
 
-// Answers call 14, also one that can't be read. Neither is inlined: the compiler would join the frames of all three writers, with their
-// arrays, in one.
+// Answers call 14, also one that can't be read. Neither this nor `serve` is inlined: the compiler would join the frames of all three writers,
+// with their arrays, in one.
 #[inline(never)]
 pub fn serve_audit<I: Read, O: Write>(
     input: &mut I,
