@@ -64,131 +64,96 @@ fn main(rt: HostRuntime) {
 
 #[cfg(test)]
 mod tests {
-    // Each crate's calls by themselves: a request that is read whole is answered, and of one with a byte more that byte is left, and nothing
-    // is written.
     use super::{blank, blank_spare};
-    use wire::{HandsetCall, ProofCall, Request, ServerCall, TreeCall, Unreadable};
+    use std::io::{Read, Write};
+    use wire::{Call, Request, Space, Spare, Unreadable};
 
-    const REFUSED: [u8; 12] = *b"refused 1\n--";
+    const REFUSED: &[u8] = b"refused 1\n";
 
-    const NOTHING: [u8; 12] = [b'-'; 12];
+    // Each call by its number, small fields and a byte behind them, and its line by another implementation (`tests/plain_driver.py`).
+    const CALLS: [(u8, &[u8], &[u8]); 14] = [
+        (
+            1,
+            b"\0\0\0\0-",
+            b"e3b0c44298fc1c149afbf4c8996fb92427ae41e4649b934ca495991b7852b855\n",
+        ),
+        (2, b"\0\0\0\x01\x10\0\0\0\x01\0-", b"3\n"),
+        (3, b"\0\0\0\x02\0\x01\0\0\0\x04\0\0\0\x01-", b"3\n"),
+        (4, b"\0\0\0\0\0\0\0\0\0\0\0\0-", REFUSED),
+        (5, b"\0\0\0\0\0\0\0\0\0\0\0\0-", REFUSED),
+        (6, b"\0\0\0\0\0\0\0\0\0\0\0\0-", REFUSED),
+        (7, b"\0\0\0\0-", REFUSED),
+        (8, b"\0\0\0\x01\xC1-", REFUSED),
+        (9, b"\0\0\0\0\0\0\0\0\0\0\0\x02\0\0-", REFUSED),
+        (10, b"\0\0\0\0-", REFUSED),
+        (
+            11,
+            b"\0\0\0\0\0\0\0\0\0\0\0\x04\0\0\0\0\0\0\0\x04\0\0\0\0\0\0\0\0-",
+            REFUSED,
+        ),
+        (
+            12,
+            b"\0\0\0\0\0\0\0\0\0\0\0\x04\0\0\0\0\0\0\0\x04\0\0\0\0\0\0\0\0\0\0\0\x04\0\0\0\0\0\0\0\x04\0\0\0\0-",
+            REFUSED,
+        ),
+        (
+            13,
+            b"\0\0\0\0\0\0\0\0\0\0\0\x04\0\0\0\0\0\0\0\x04\0\0\0\0\0\0\0\0\0\0\0\x04\0\0\0\0\0\0\0\x04\0\0\0\0-",
+            REFUSED,
+        ),
+        (
+            14,
+            b"\0\0\0\0\0\0\0\0\0\0\0\x04\0\0\0\0\0\0\0\x04\0\0\0\0\0\0\0\x04\0\0\0\0\0\0\0\x04\0\0\0\0-",
+            REFUSED,
+        ),
+    ];
 
-    // Two labels of a byte each, whose fourth bits differ.
-    #[test]
-    fn of_the_handset(rt: HostRuntime) {
-        let mut space = blank();
-        for (left, answer, line) in [
-            (10, Ok(()), *b"3\n----------"),
-            (11, Err(Unreadable), NOTHING),
-        ] {
-            let mut input: &[u8] = b"\0\0\0\x01\x10\0\0\0\x01\0-";
-            let mut written = NOTHING;
-            let mut request = Request { left };
-            assert_eq!(rt;
-                handset_calls::answer(
-                    &mut input,
-                    &mut &mut written[..],
-                    HandsetCall::FirstDifference,
-                    &mut request,
-                    &mut space
-                ),
-                answer
-            );
-            assert_eq!(rt; (written, request.left, input.len()), (line, left - 10, 1));
+    // As `answer` of the driver, but a request that can't be read is handed back.
+    fn answer<I: Read, O: Write>(
+        input: &mut I,
+        output: &mut O,
+        number: u8,
+        request: &mut Request,
+        space: &mut Space,
+        spare: &mut Spare,
+    ) -> Result<(), Unreadable> {
+        match Call::try_from(number)? {
+            Call::Handset(call) => handset_calls::answer(input, output, call, request, space),
+            Call::Tree(call) => tree_calls::answer(input, output, call, request, space),
+            Call::Server(call) => server_calls::answer(input, output, call, request, space, spare),
+            Call::Proof(call) => writer_calls::answer(input, output, call, request, space, spare),
+            Call::Audit => writer_calls::answer_audit(input, output, request, space, spare),
         }
     }
 
-    // Entries of one byte.
+    // A request that is read whole is answered; of one that has the byte behind its fields too, that byte is left, and nothing is written.
     #[test]
-    fn of_the_tree_level(rt: HostRuntime) {
-        let mut space = blank();
-        for (left, answer, line) in [(5, Ok(()), REFUSED), (6, Err(Unreadable), NOTHING)] {
-            let mut input: &[u8] = b"\0\0\0\x01\xC1-";
-            let mut written = NOTHING;
-            let mut request = Request { left };
-            assert_eq!(rt;
-                tree_calls::answer(
-                    &mut input,
-                    &mut &mut written[..],
-                    TreeCall::Root,
-                    &mut request,
-                    &mut space
-                ),
-                answer
-            );
-            assert_eq!(rt; (written, request.left, input.len()), (line, left - 5, 1));
-        }
-    }
-
-    // No heads.
-    #[test]
-    fn of_the_server(rt: HostRuntime) {
+    fn of_each_call(rt: HostRuntime) {
         let mut space = blank();
         let mut spare = blank_spare();
-        for (left, answer, line) in [(4, Ok(()), REFUSED), (5, Err(Unreadable), NOTHING)] {
-            let mut input: &[u8] = b"\0\0\0\0-";
-            let mut written = NOTHING;
-            let mut request = Request { left };
-            assert_eq!(rt;
-                server_calls::answer(
-                    &mut input,
-                    &mut &mut written[..],
-                    ServerCall::Start,
-                    &mut request,
-                    &mut space,
-                    &mut spare
-                ),
-                answer
-            );
-            assert_eq!(rt; (written, request.left, input.len()), (line, left - 4, 1));
-        }
-    }
-
-    // No records, no heads and no name.
-    #[test]
-    fn of_a_proof(rt: HostRuntime) {
-        let mut space = blank();
-        let mut spare = blank_spare();
-        for (left, answer, line) in [(44, Ok(()), REFUSED), (45, Err(Unreadable), NOTHING)] {
-            let mut input: &[u8] =
-                b"\0\0\0\0\0\0\0\0\0\0\0\x04\0\0\0\0\0\0\0\x04\0\0\0\0\0\0\0\0\0\0\0\x04\0\0\0\0\0\0\0\x04\0\0\0\0-";
-            let mut written = NOTHING;
-            let mut request = Request { left };
-            assert_eq!(rt;
-                writer_calls::answer(
-                    &mut input,
-                    &mut &mut written[..],
-                    ProofCall::Lookup,
-                    &mut request,
-                    &mut space,
-                    &mut spare
-                ),
-                answer
-            );
-            assert_eq!(rt; (written, request.left, input.len()), (line, left - 44, 1));
-        }
-    }
-
-    #[test]
-    fn of_an_audit(rt: HostRuntime) {
-        let mut space = blank();
-        let mut spare = blank_spare();
-        for (left, answer, line) in [(40, Ok(()), REFUSED), (41, Err(Unreadable), NOTHING)] {
-            let mut input: &[u8] =
-                b"\0\0\0\0\0\0\0\0\0\0\0\x04\0\0\0\0\0\0\0\x04\0\0\0\0\0\0\0\x04\0\0\0\0\0\0\0\x04\0\0\0\0-";
-            let mut written = NOTHING;
-            let mut request = Request { left };
-            assert_eq!(rt;
-                writer_calls::answer_audit(
-                    &mut input,
-                    &mut &mut written[..],
-                    &mut request,
-                    &mut space,
-                    &mut spare
-                ),
-                answer
-            );
-            assert_eq!(rt; (written, request.left, input.len()), (line, left - 40, 1));
+        for (number, bytes, line) in CALLS {
+            for (more, answered, written) in [(0, Ok(()), line), (1, Err(Unreadable), &b""[..])] {
+                let mut input = bytes;
+                let mut room = [b'-'; 80];
+                let mut output = &mut room[..];
+                let mut request = Request {
+                    left: bytes.len().saturating_sub(1) + more,
+                };
+                assert_eq!(rt;
+                    answer(
+                        &mut input,
+                        &mut output,
+                        number,
+                        &mut request,
+                        &mut space,
+                        &mut spare
+                    ),
+                    answered
+                );
+                let n = 80usize.saturating_sub(output.len());
+                assert_eq!(rt; room.get(..n), Some(written));
+                assert_eq!(rt; (request.left, input.len()), (more, 1));
+            }
         }
     }
 }

@@ -91,6 +91,7 @@ fn print_written<O: Write>(output: &mut O, answer: WriteAnswer, out: &[u8])
 }
 
 // Reads and answers call 12 or 13: a request that can't be read has no answer.
+#[inline(never)]
 pub fn answer<I: Read, O: Write>(
     input: &mut I,
     output: &mut O,
@@ -113,7 +114,6 @@ pub fn answer<I: Read, O: Write>(
 }
 
 // Answers call 12 or 13, also one that can't be read.
-#[inline(never)]
 pub fn serve<I: Read, O: Write>(
     input: &mut I,
     output: &mut O,
@@ -127,7 +127,9 @@ pub fn serve<I: Read, O: Write>(
     }
 }
 
-// Reads and answers call 14.
+// Reads and answers call 14. Neither this nor `answer` is inlined: the compiler would join the frames of all three writers, with their arrays,
+// in one.
+#[inline(never)]
 pub fn answer_audit<I: Read, O: Write>(
     input: &mut I,
     output: &mut O,
@@ -147,9 +149,7 @@ pub fn answer_audit<I: Read, O: Write>(
     Ok(())
 }
 
-// Answers call 14, also one that can't be read. Neither this nor `serve` is inlined: the compiler would join the frames of all three writers,
-// with their arrays, in one.
-#[inline(never)]
+// Answers call 14, also one that can't be read.
 pub fn serve_audit<I: Read, O: Write>(
     input: &mut I,
     output: &mut O,
