@@ -2,10 +2,10 @@
 """Prints the stack that functions of the driver program take, or of another (-p PROGRAM), with all that they call, from the program's own
 instructions: `python3 tests/stack.py main`, `python3 tests/stack.py -p target/c/driver noonhaggle_publish`.
 
-A function's frame is what it pushes, what it subtracts from the stack pointer, and its return address. A large frame is taken page by page,
-in a loop whose end is reckoned in the register r11 first. A function's stack is its frame and the largest stack of a function that it calls.
-A function that calls itself is counted at the depth that its contract bounds: a recursion over the bits of labels at 256, with one call more
-where the last only ends it. Run `tools/build driver` first; `objdump` must be on the path.
+A function's frame is what it pushes, what it subtracts from the stack pointer, and its return address. A large frame is taken step by step,
+in a loop whose end is reckoned in the register r11 first; the loop's own step is a part of that. A function's stack is its frame and the
+largest stack of a function that it calls. A function that calls itself is counted at the depth that its contract bounds: a recursion over the
+bits of labels at 256, with one call more where the last only ends it. Run `tools/build driver` first; `objdump` must be on the path.
 """
 import os
 import re
@@ -28,9 +28,8 @@ DEPTHS = {
     "subtrees::count::count_below": 256,
     "subtrees::write::write_below": 256,
 }
-PAGE = 4096
 
-frames, calls, name = {}, {}, None
+frames, calls, name, steps = {}, {}, None, False
 for line in text.split("\n"):
     start = re.match(r"[0-9a-f]+ <(.*)>:$", line)
     if start:
@@ -41,11 +40,12 @@ for line in text.split("\n"):
             frames[name] += 8
         sub = re.search(r"\tsub +\$0x([0-9a-f]+),%rsp", line)
         if sub:
-            frames[name] += int(sub.group(1), 16)
-        pages = re.search(r"\tsub +\$0x([0-9a-f]+),%r11", line)
-        if pages:
-            # the loop's own step, a page, is counted above
-            frames[name] += int(pages.group(1), 16) - PAGE
+            frames[name] += 0 if steps else int(sub.group(1), 16)
+            steps = False
+        end = re.search(r"\tsub +\$0x([0-9a-f]+),%r11", line)
+        if end:
+            frames[name] += int(end.group(1), 16)
+            steps = True
         call = re.search(r"\t(?:call|jmp) +[0-9a-f]+ <(.*)>$", line)
         if call and not re.search(r"\+0x[0-9a-f]+$", call.group(1)):
             calls[name].add(call.group(1))
